@@ -1,0 +1,154 @@
+// The calls and their answers. What a call answers is never longer than the call itself, so the answers fit where the calls did.
+ghost use mathlib.Core.Path.{_≡_};
+ghost use Prim.Native.Nat.{_+_, _≤_};
+ghost use lib.ListN.{length};
+
+// A mode as a cell: every number from 2 on is a wrong mode.
+fn mode_of(cell: u64) -> u32 {
+    if cell < 2 { cell as u32 } else { 2 }
+}
+
+fn low_half(cell: u64) -> u32 {
+    (cell % 4294967296) as u32
+}
+
+fn wide(entry: u32) -> u64 {
+    entry as u64
+}
+
+// No answer cells.
+fn tell_none(answers: &mut [u64; 65536], told: usize) -> usize
+    requires { ⌜ told + 1 ≤ 65536 ⌝ }
+    ensures { λ r. ⌜ r ≡ told + 1 ⌝ }
+{
+    answers[told] = 0;
+    told + 1
+}
+
+// One answer cell.
+fn tell_one(answers: &mut [u64; 65536], told: usize, answer: u64) -> usize
+    requires { ⌜ told + 2 ≤ 65536 ⌝ }
+    ensures { λ r. ⌜ r ≡ told + 2 ⌝ }
+{
+    answers[told] = 1;
+    answers[told + 1] = answer;
+    told + 2
+}
+
+// The entries of a list, from a place in the cells on.
+fn take_entries(cells: &[u64; 65536], from: usize, count: usize, list: &mut [u32])
+    requires { ⌜ (from + count ≤ 65536) × (count ≤ length (now list)) ⌝ }
+{
+    let mut i: usize = 0;
+    while i < count {
+        list[i] = low_half(cells[from + i]);
+        i += 1;
+    }
+}
+
+// An answer and the entries of a list.
+fn tell_entries(
+    answers: &mut [u64; 65536],
+    told: usize,
+    answer: u64,
+    list: &[u32],
+    count: usize,
+) -> usize
+    requires { ⌜ (told + count + 2 ≤ 65536) × (count ≤ length (now list)) ⌝ }
+    ensures { λ r. ⌜ r ≡ told + count + 2 ⌝ }
+{
+    answers[told] = 1 + (count as u64);
+    answers[told + 1] = answer;
+    let mut i: usize = 0;
+    while i < count {
+        answers[told + 2 + i] = wide(list[i]);
+        i += 1;
+    }
+    told + count + 2
+}
+
+// Operation 3: mode, word, first, place, and the list's entries.
+fn write(
+    cells: &[u64; 65536],
+    from: usize,
+    size: usize,
+    answers: &mut [u64; 65536],
+    told: usize,
+    list: &mut [u32],
+) -> usize
+    requires { ⌜ (4 ≤ size) × (from + size ≤ 65536) × (told + 2 ≤ from) × (65536 ≤ length (now list)) ⌝ }
+    ensures { λ r. ⌜ r ≤ from + size ⌝ }
+{
+    let count = size - 4;
+    take_entries(cells, from + 4, count, list);
+    let place = cells[from + 3] as usize;
+    let answer = line::write(
+        &mut list[..count],
+        place,
+        mode_of(cells[from]),
+        cells[from + 1],
+        low_half(cells[from + 2]),
+    );
+    tell_entries(answers, told, answer.packed(), list, count)
+}
+
+// One call: an operation and its arguments, which start at a place.
+fn answer_one(
+    cells: &[u64; 65536],
+    operation: u64,
+    from: usize,
+    size: usize,
+    answers: &mut [u64; 65536],
+    told: usize,
+    list: &mut [u32],
+) -> usize
+    requires { ⌜ (from + size ≤ 65536) × (told + 2 ≤ from) × (65536 ≤ length (now list)) ⌝ }
+    ensures { λ r. ⌜ r ≤ from + size ⌝ }
+{
+    if operation == 1 {
+        if 1 <= size {
+            return tell_one(answers, told, page::check(cells[from]).packed());
+        }
+    }
+    if operation == 2 {
+        if 2 <= size {
+            return tell_one(
+                answers,
+                told,
+                line::judge(mode_of(cells[from]), low_half(cells[from + 1])).packed(),
+            );
+        }
+    }
+    if operation == 3 {
+        if 4 <= size {
+            return write(cells, from, size, answers, told, list);
+        }
+    }
+    tell_none(answers, told)
+}
+
+// All calls in the first cells, up to one that the cells do not hold whole; the number of cells of their answers.
+pub(crate) fn answer_all(
+    cells: &[u64; 65536],
+    count: usize,
+    answers: &mut [u64; 65536],
+    list: &mut [u32],
+) -> usize
+    requires { ⌜ (count ≤ 65536) × (65536 ≤ length (now list)) ⌝ }
+    ensures { λ r. ⌜ r ≤ count ⌝ }
+{
+    let mut at: usize = 0;
+    let mut told: usize = 0;
+    while 2 <= count - at {
+        let operation = cells[at];
+        let wanted = cells[at + 1];
+        let from = at + 2;
+        if ((count - from) as u64) < wanted {
+            return told;
+        }
+        let size = wanted as usize;
+        told = answer_one(cells, operation, from, size, answers, told, list);
+        at = from + size;
+    }
+    told
+}

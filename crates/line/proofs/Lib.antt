@@ -1,0 +1,6 @@
+pub mod ComputedTest
+pub mod SentBits
+pub mod PagePattern
+pub mod EdgeCount
+pub mod WritingLoop
+pub mod WrittenList

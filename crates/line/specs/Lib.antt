@@ -1,0 +1,5 @@
+pub mod Clock
+pub mod Modes
+pub mod Gaps
+pub mod Transitions
+pub mod Writing

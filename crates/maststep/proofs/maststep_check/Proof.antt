@@ -1,0 +1,10 @@
+use mathlib.Core.Path.{ap, _∙_}
+use borrow.Author.Needs.{needs}
+use Rattle.refusal.specs.Answers.{packed}
+use Rattle.maststep.proofs.maststep_check.Statement.{statement}
+use Rattle.maststep.proofs.maststep_check.Tie as tie
+
+pub maststep-check-spec : {M : Type 1} → statement M
+maststep-check-spec =
+    tie.close
+    (tie.spec (λ c κs. search needs) (λ c κs. search needs) (λ c. c .packed .ensures ∙ ap packed (c .before .check .ensures)))

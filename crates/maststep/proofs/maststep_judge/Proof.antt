@@ -1,0 +1,10 @@
+use mathlib.Core.Path.{ap, _∙_}
+use borrow.Author.Needs.{needs}
+use Rattle.refusal.specs.Answers.{packed}
+use Rattle.maststep.proofs.maststep_judge.Statement.{statement}
+use Rattle.maststep.proofs.maststep_judge.Tie as tie
+
+pub maststep-judge-spec : {M : Type 1} → statement M
+maststep-judge-spec =
+    tie.close
+    (tie.spec (λ c κs. search needs) (λ c κs. search needs) (λ c. c .packed .ensures ∙ ap packed (c .before .judge .ensures)))

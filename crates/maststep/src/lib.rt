@@ -1,0 +1,37 @@
+// The C functions of the static library, thin over the crates: each gives the answer as one number. include/maststep.h declares them.
+ghost use mathlib.Core.Path.{_≡_};
+ghost use Rattle.refusal.specs.Answers.{packed};
+ghost use Rattle.page.specs.Checked.{checked};
+ghost use Rattle.line.specs.Gaps.{judged};
+ghost use Rattle.line.specs.Writing.{writeSays, writeLeaves};
+
+// The check bits of a word, or 13.
+#[no_mangle]
+pub extern "C" fn maststep_check(word: u64) -> u64
+    ensures { λ r. ⌜ r ≡ packed (checked word) ⌝ }
+{
+    page::check(word).packed()
+}
+
+// How a gap counts in a mode, or 14.
+#[no_mangle]
+pub extern "C" fn maststep_judge(mode: u32, gap: u32) -> u64
+    ensures { λ r. ⌜ r ≡ packed (judged mode gap) ⌝ }
+{
+    line::judge(mode, gap).packed()
+}
+
+// Writes a page's readings into the list from a place on: their number, or 14, 13, 12.
+#[no_mangle]
+pub extern "C" fn maststep_write(
+    list: &mut [u32],
+    place: usize,
+    mode: u32,
+    word: u64,
+    first: u32,
+) -> u64
+    ensures says { λ r. ⌜ r ≡ packed (writeSays mode (now (list .entry)) place word) ⌝ }
+    ensures leaves { λ _. ⌜ now (list .exit) ≡ writeLeaves mode (now (list .entry)) place word first ⌝ }
+{
+    line::write(list, place, mode, word, first).packed()
+}

@@ -1,0 +1,98 @@
+-- No second answer says the same: a promise about what is said fixes the answer.
+-- `heard` finds the answer again from what was said, so two answers that say the same are one.
+-- The number of an ability is a byte in the code; here that is the premise `Sayable`.
+use mathlib.Core.Path.{_≡_, refl, sym, ap, ap₂, _∙_}
+use mathlib.Core.Bool.{Bool, true, false, cond}
+use Prim.Native.Nat.{ℕ, _+_, _-_, _<_}
+use native.Mathlib.Omega.{arith}
+use lib.Dec.{eqb, leb, ltb}
+use borrow.Author.Tests.{le-leb, lt-leb}
+use Rattle.refusal.specs.declared.Refusal.{Refusal}
+use Rattle.refusal.specs.declared.Refusal.the-variants.{Gap, Cut, Check, Selector, Tie, Changed, Echo, None, Roles, Register, Turn, Room, Wide, Mode, Odd}
+use Rattle.refusal.specs.declared.Answer.{Answer}
+use Rattle.refusal.specs.declared.Answer.the-variants.{Nothing, Refused, Page, Order, Settled, Value, Number, Quiet, Unfit}
+use Rattle.refusal.specs.Numbers.{numberOf}
+use Rattle.refusal.specs.Answers.{Said, said}
+
+-- The refusal with a number of 01's table; past its end the last.
+abbrev refusalAt : ℕ → Refusal
+refusalAt n =
+    cond (eqb n 1) Gap
+    (cond (eqb n 2) Cut
+    (cond (eqb n 3) Check
+    (cond (eqb n 4) Selector
+    (cond (eqb n 5) Tie
+    (cond (eqb n 6) Changed
+    (cond (eqb n 7) Echo
+    (cond (eqb n 8) None
+    (cond (eqb n 9) Roles
+    (cond (eqb n 10) Register
+    (cond (eqb n 11) Turn
+    (cond (eqb n 12) Room
+    (cond (eqb n 13) Wide
+    (cond (eqb n 14) Mode Odd)))))))))))))
+
+abbrev settledAt : Bool → ℕ → Answer
+settledAt true v = Settled (v - 256) true
+settledAt false v = Settled v false
+
+abbrev answerAt : ℕ → ℕ → Answer
+answerAt kind value =
+    cond (eqb kind 0) Nothing
+    (cond (ltb kind 128) (Refused (refusalAt kind))
+    (cond (eqb kind 128) (Page value)
+    (cond (eqb kind 129) (Order value)
+    (cond (eqb kind 130) (settledAt (leb 256 value) value)
+    (cond (eqb kind 131) (Value value)
+    (cond (eqb kind 132) (Number value)
+    (cond (eqb kind 133) Quiet Unfit)))))))
+
+abbrev heard : Said → Answer
+heard s = answerAt (s .kind) (s .value)
+
+-- The number of an ability is a byte.
+abbrev pub Sayable : Answer → Type 0
+Sayable Nothing = Unit {0}
+Sayable (Refused r) = Unit {0}
+Sayable (Page w) = Unit {0}
+Sayable (Order w) = Unit {0}
+Sayable (Settled a m) = a < 256
+Sayable (Value v) = Unit {0}
+Sayable (Number n) = Unit {0}
+Sayable Quiet = Unit {0}
+Sayable Unfit = Unit {0}
+
+refusal-again : (r : Refusal) → heard (said (Refused r)) ≡ Refused r
+refusal-again Gap = refl
+refusal-again Cut = refl
+refusal-again Check = refl
+refusal-again Selector = refl
+refusal-again Tie = refl
+refusal-again Changed = refl
+refusal-again Echo = refl
+refusal-again None = refl
+refusal-again Roles = refl
+refusal-again Register = refl
+refusal-again Turn = refl
+refusal-again Room = refl
+refusal-again Wide = refl
+refusal-again Mode = refl
+refusal-again Odd = refl
+
+settled-again : (a : ℕ) (m : Bool) → a < 256 → heard (said (Settled a m)) ≡ Settled a m
+settled-again a true h = let e : leb 256 (a + 256) ≡ true = le-leb 256 (a + 256) (omega arith) in let d : a + 256 - 256 ≡ a = omega arith in rw e (rw d refl)
+settled-again a false h = rw (lt-leb 256 a h) refl
+
+again : (a : Answer) → Sayable a → heard (said a) ≡ a
+again Nothing h = refl
+again (Refused r) h = refusal-again r
+again (Page w) h = refl
+again (Order w) h = refl
+again (Settled a m) h = settled-again a m h
+again (Value v) h = refl
+again (Number n) h = refl
+again Quiet h = refl
+again Unfit h = refl
+
+pub one-answer : (a b : Answer) → Sayable a → Sayable b → said a ≡ said b → a ≡ b
+one-answer a b ha hb e = sym (again a ha) ∙ ap heard e ∙ again b hb

@@ -1,0 +1,11 @@
+use borrow.Author.Needs.{needs}
+use Rattle.refusal.proofs.rate_and_role.Statement.{statement}
+use Rattle.refusal.proofs.rate_and_role.Tie as tie
+
+pub rate-and-role-spec : {M : Type 1} → statement M
+rate-and-role-spec =
+    tie.close
+    (tie.spec
+    (λ c. search needs)
+    (λ c. simp (c .if1 .taken))
+    (λ c. simp (c .if1 .left)))

@@ -1,0 +1,160 @@
+//! Holding the output of `drive` against what the model gives.
+
+use crate::call::{all_cells, printed, Call};
+use crate::cells::{to_bytes, whole_cells, CELL_BYTES, MOST_CELLS};
+use crate::{drive, model};
+
+/// More differences than this are not printed.
+const MOST_PRINTED: usize = 5;
+
+/// Sends all calls, in batches as full as the limit lets, and fails the test if one
+/// answer cell differs.
+pub fn assert_agreement(calls: &[Call]) {
+    let batches = full_batches(calls);
+    let inputs: Vec<Vec<u8>> = batches
+        .iter()
+        .map(|batch| to_bytes(&all_cells(batch)))
+        .collect();
+    assert_scripts_agree(&inputs);
+}
+
+/// Sends each script in a process of its own and fails the test if an output is not
+/// exactly that of the model.
+pub fn assert_scripts_agree(inputs: &[Vec<u8>]) {
+    let mut differences = Vec::new();
+    for (input, output) in inputs.iter().zip(drive::run_each(inputs)) {
+        match output {
+            Ok(output) => differences.extend(script_differences(input, &output)),
+            Err(words) => differences.push(format!("{words}\n  {}", described(input))),
+        }
+    }
+    fail_if_any(&differences);
+}
+
+/// Sends the calls in one process and fails the test if an answer is not the number
+/// beside the call, or if anything differs from the model.
+pub fn assert_answers(calls_and_answers: &[(Call, u64)]) {
+    let calls: Vec<Call> = calls_and_answers
+        .iter()
+        .map(|pair| pair.0.clone())
+        .collect();
+    let input = to_bytes(&all_cells(&calls));
+    let output = drive::run(&input).unwrap_or_else(|words| panic!("{words}"));
+    let mut differences = script_differences(&input, &output);
+    let answers = first_answer_cells(&output, calls.len());
+    for ((call, expected), got) in calls_and_answers.iter().zip(answers) {
+        if got != Some(*expected) {
+            differences.push(format!(
+                "{call}\n  expected answer {expected:#x}, got {}",
+                shown(got.as_ref())
+            ));
+        }
+    }
+    fail_if_any(&differences);
+}
+
+/// Sends the calls in one process and gives the first answer cell of each, if it has one.
+pub fn answers(calls: &[Call]) -> Result<Vec<Option<u64>>, String> {
+    let output = drive::run(&to_bytes(&all_cells(calls)))?;
+    Ok(first_answer_cells(&output, calls.len()))
+}
+
+fn first_answer_cells(output: &[u8], calls: usize) -> Vec<Option<u64>> {
+    let groups = answer_groups(output);
+    (0..calls)
+        .map(|call| groups.get(call).and_then(|group| group.get(1)).copied())
+        .collect()
+}
+
+fn full_batches(calls: &[Call]) -> Vec<&[Call]> {
+    let mut batches = Vec::new();
+    let (mut start, mut cells) = (0, 0);
+    for (index, call) in calls.iter().enumerate() {
+        if cells + call.length() > MOST_CELLS {
+            batches.push(&calls[start..index]);
+            (start, cells) = (index, 0);
+        }
+        cells += call.length();
+    }
+    batches.push(&calls[start..]);
+    batches
+}
+
+/// In words, what of the output is not as the model gives it.
+fn script_differences(input: &[u8], output: &[u8]) -> Vec<String> {
+    let expected = model::output(input).expect("tests send only operations that are modelled");
+    if expected == output {
+        return Vec::new();
+    }
+    let (expected, got) = (answer_groups(&expected), answer_groups(output));
+    let calls = model::whole_calls(input);
+    let mut differences: Vec<String> = calls
+        .iter()
+        .enumerate()
+        .filter(|(index, _)| expected.get(*index) != got.get(*index))
+        .map(|(index, call)| call_difference(call, &expected[index], got.get(index)))
+        .collect();
+    if differences.is_empty() {
+        let length = output.len();
+        differences.push(format!(
+            "after the answers of all {} whole calls more was written, {length} bytes in all\n  {}",
+            calls.len(),
+            described(input)
+        ));
+    }
+    differences
+}
+
+/// The output cut into one group for each call: the number of answer cells, and then
+/// these. The numbers are those that the output itself gives, right or wrong.
+fn answer_groups(output: &[u8]) -> Vec<Vec<u64>> {
+    let cells = whole_cells(output);
+    let mut rest = &cells[..];
+    let mut groups = Vec::new();
+    while let [number, after @ ..] = rest {
+        let number = usize::try_from(*number).unwrap_or(usize::MAX);
+        let group_length = 1 + number.min(after.len());
+        groups.push(rest[..group_length].to_vec());
+        rest = &rest[group_length..];
+    }
+    groups
+}
+
+fn call_difference(call: &Call, expected: &[u64], got: Option<&Vec<u64>>) -> String {
+    let Some(got) = got else {
+        return format!("{call}\n  expected {}, got no answer", printed(expected));
+    };
+    let place = (0..)
+        .find(|place| expected.get(*place) != got.get(*place))
+        .expect("the two differ");
+    format!(
+        "{call}\n  expected {}\n  got      {}\n  \
+         first difference at cell {place}, cell 0 being the number of answer cells: \
+         expected {}, got {}",
+        printed(expected),
+        printed(got),
+        shown(expected.get(place)),
+        shown(got.get(place))
+    )
+}
+
+fn shown(cell: Option<&u64>) -> String {
+    cell.map_or("nothing".to_string(), |cell| format!("{cell:#x}"))
+}
+
+fn described(input: &[u8]) -> String {
+    format!(
+        "the input has {} cells and {} bytes more: {}",
+        input.len() / CELL_BYTES,
+        input.len() % CELL_BYTES,
+        printed(&whole_cells(input))
+    )
+}
+
+fn fail_if_any(differences: &[String]) {
+    if !differences.is_empty() {
+        let number = differences.len();
+        let first = &differences[..number.min(MOST_PRINTED)];
+        panic!("differences: {number}; the first are\n{}", first.join("\n"));
+    }
+}

@@ -1,0 +1,86 @@
+//! One call of `drive`: an operation and its arguments.
+
+use std::fmt;
+
+pub const CHECK: u64 = 1;
+pub const JUDGE: u64 = 2;
+pub const WRITE: u64 = 3;
+/// Operations that `drive` knows and this program does not have yet.
+pub const NOT_HERE_YET: std::ops::RangeInclusive<u64> = 4..=7;
+
+/// More arguments than this are not printed.
+const MOST_PRINTED: usize = 8;
+
+#[derive(Clone, Debug, PartialEq)]
+pub struct Call {
+    pub operation: u64,
+    pub arguments: Vec<u64>,
+}
+
+impl Call {
+    pub fn new(operation: u64, arguments: &[u64]) -> Call {
+        Call {
+            operation,
+            arguments: arguments.to_vec(),
+        }
+    }
+
+    pub fn check(word: u64) -> Call {
+        Call::new(CHECK, &[word])
+    }
+
+    pub fn judge(mode: u64, gap: u64) -> Call {
+        Call::new(JUDGE, &[mode, gap])
+    }
+
+    pub fn write(mode: u64, word: u64, first: u64, place: u64, entries: &[u64]) -> Call {
+        let mut call = Call::new(WRITE, &[mode, word, first, place]);
+        call.arguments.extend(entries);
+        call
+    }
+
+    /// The call as it is sent.
+    pub fn cells(&self) -> Vec<u64> {
+        let mut cells = vec![self.operation, self.arguments.len() as u64];
+        cells.extend(&self.arguments);
+        cells
+    }
+
+    /// The number of cells that are sent.
+    pub fn length(&self) -> usize {
+        2 + self.arguments.len()
+    }
+}
+
+/// The cells of several calls, one after the other.
+pub fn all_cells(calls: &[Call]) -> Vec<u64> {
+    calls.iter().flat_map(Call::cells).collect()
+}
+
+impl fmt::Display for Call {
+    fn fmt(&self, out: &mut fmt::Formatter) -> fmt::Result {
+        let name = match self.operation {
+            CHECK => "check",
+            JUDGE => "judge",
+            WRITE => "write",
+            _ => "unknown here",
+        };
+        write!(out, "operation {} ({name}), ", self.operation)?;
+        write!(out, "arguments {}", printed(&self.arguments))
+    }
+}
+
+/// Cells in a form that stays short.
+pub fn printed(cells: &[u64]) -> String {
+    let first: Vec<String> = cells
+        .iter()
+        .take(MOST_PRINTED)
+        .map(|cell| format!("{cell:#x}"))
+        .collect();
+    let more = cells.len().saturating_sub(MOST_PRINTED);
+    if more == 0 {
+        format!("[{}]", first.join(", "))
+    } else {
+        format!("[{}, and {more} more]", first.join(", "))
+    }
+}

@@ -1,0 +1,96 @@
+//! What `drive` has to do, over the reference: bytes in, bytes out.
+
+use crate::call::{Call, CHECK, JUDGE, NOT_HERE_YET, WRITE};
+use crate::cells::{modulo_2_to_32, to_bytes, whole_cells, MOST_CELLS};
+use reference::calls;
+
+/// The call asks for an operation that `drive` knows and this model does not have yet.
+#[derive(Debug, PartialEq)]
+pub struct NotModelledYet;
+
+/// Everything that `drive` writes for this input.
+pub fn output(input: &[u8]) -> Result<Vec<u8>, NotModelledYet> {
+    let mut cells = Vec::new();
+    for call in whole_calls(input) {
+        let answer = answer_cells(&call)?;
+        cells.push(answer.len() as u64);
+        cells.extend(answer);
+    }
+    Ok(to_bytes(&cells))
+}
+
+/// The calls that are answered: those that end before the input does, and within
+/// the most cells that `drive` looks at.
+pub fn whole_calls(input: &[u8]) -> Vec<Call> {
+    let mut cells = whole_cells(input);
+    cells.truncate(MOST_CELLS);
+    let mut rest = &cells[..];
+    let mut calls = Vec::new();
+    while let Some((call, after)) = first_call(rest) {
+        calls.push(call);
+        rest = after;
+    }
+    calls
+}
+
+/// The call at the front and the cells after it, if the call is there in full.
+fn first_call(cells: &[u64]) -> Option<(Call, &[u64])> {
+    let [operation, number_of_arguments, rest @ ..] = cells else {
+        return None;
+    };
+    let number_of_arguments = usize::try_from(*number_of_arguments).ok()?;
+    let (arguments, after) = rest.split_at_checked(number_of_arguments)?;
+    Some((Call::new(*operation, arguments), after))
+}
+
+/// The answer cells of one call. Too few arguments and unknown operations have none;
+/// `..` in a pattern stands for arguments that are not looked at.
+pub fn answer_cells(call: &Call) -> Result<Vec<u64>, NotModelledYet> {
+    match (call.operation, &call.arguments[..]) {
+        (CHECK, [word, ..]) => Ok(vec![calls::check(*word)]),
+        (JUDGE, [mode, gap, ..]) => Ok(vec![calls::judge(*mode, modulo_2_to_32(*gap))]),
+        (WRITE, [mode, word, first, place, entries @ ..]) => {
+            Ok(write(*mode, *word, *first, *place, entries))
+        }
+        (operation, _) if NOT_HERE_YET.contains(&operation) => Err(NotModelledYet),
+        _ => Ok(Vec::new()),
+    }
+}
+
+fn write(mode: u64, word: u64, first: u64, place: u64, entries: &[u64]) -> Vec<u64> {
+    let mut list: Vec<u32> = entries.iter().map(|cell| modulo_2_to_32(*cell)).collect();
+    let answer = calls::write(&mut list, place, mode, word, modulo_2_to_32(first));
+    let mut cells = vec![answer];
+    cells.extend(list.into_iter().map(u64::from));
+    cells
+}
+
+#[cfg(test)]
+mod tests {
+    use super::*;
+    use reference::answer;
+
+    #[test]
+    fn whole_calls_are_answered_and_a_cut_call_is_not() {
+        let input = to_bytes(&[1, 1, 1 << 47, 99, 0, 1, 1]);
+        let expected = to_bytes(&[1, answer::number(0x8005), 0]);
+        assert_eq!(output(&input), Ok(expected));
+    }
+
+    #[test]
+    fn nothing_past_the_most_cells_is_looked_at() {
+        let input = to_bytes(&vec![0; MOST_CELLS + 2]);
+        assert_eq!(whole_calls(&input).len(), MOST_CELLS / 2);
+    }
+
+    #[test]
+    fn entries_are_answered_modulo_2_to_32_also_on_a_refusal() {
+        let call = Call::write(2, 0, 0, 0, &[(3 << 32) + 5]);
+        assert_eq!(answer_cells(&call), Ok(vec![answer::MODE, 5]));
+    }
+
+    #[test]
+    fn later_operations_are_not_guessed() {
+        assert_eq!(answer_cells(&Call::new(4, &[])), Err(NotModelledYet));
+    }
+}

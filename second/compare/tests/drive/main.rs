@@ -1,0 +1,10 @@
+//! The program `drive` against the reference. It needs MASTSTEP_DRIVE, the path of the
+//! program; without it every test here fails and says so.
+//!
+//! All tests are in one test program, so that they can run side by side.
+
+mod edges;
+mod every_gap;
+mod protocol;
+mod random_calls;
+mod random_scripts;

@@ -1,0 +1,167 @@
+//! The protocol of `drive`: what it answers to calls that are unknown, cut or too long.
+
+use compare::agreement::assert_scripts_agree;
+use compare::call::{all_cells, printed, Call, CHECK, JUDGE, WRITE};
+use compare::cells::{to_bytes, whole_cells, MOST_CELLS};
+use compare::{drive, model};
+use reference::answer::{number, MODE};
+
+/// A call whose answer is easy to know again: 8005 hex.
+fn known_check() -> Call {
+    Call::check(1 << 47)
+}
+
+/// The answer of `known_check`, after its number of cells.
+const KNOWN_ANSWER: [u64; 2] = [1, number(0x8005)];
+
+/// So many calls of a kind that has two cells, the fewest that a call can have.
+fn shortest_calls(number: usize) -> Vec<u64> {
+    vec![0; 2 * number]
+}
+
+/// Sends the cells, and fails unless these cells come out and the model agrees.
+fn assert_output(cells: &[u64], expected: &[u64]) {
+    let input = to_bytes(cells);
+    let output = drive::run(&input).unwrap_or_else(|words| panic!("{words}"));
+    assert!(
+        output == to_bytes(expected),
+        "input {}\n  expected {}\n  got      {} ({} bytes)",
+        printed(cells),
+        printed(expected),
+        printed(&whole_cells(&output)),
+        output.len()
+    );
+    assert!(model::output(&input) == Ok(output), "the model differs");
+}
+
+#[test]
+fn unknown_operations_answer_no_cells() {
+    let mut calls = Vec::new();
+    let mut expected = Vec::new();
+    for operation in [0, 8, 99, u64::MAX] {
+        for arguments in [0, 1, 7, 500] {
+            calls.push(Call::new(operation, &vec![1; arguments]));
+            calls.push(known_check());
+            expected.push(0);
+            expected.extend(KNOWN_ANSWER);
+        }
+    }
+    assert_output(&all_cells(&calls), &expected);
+}
+
+#[test]
+fn known_operations_with_too_few_arguments_answer_no_cells() {
+    let mut calls = Vec::new();
+    let mut expected = Vec::new();
+    for (operation, needed) in [(CHECK, 1), (JUDGE, 2), (WRITE, 4)] {
+        for arguments in 0..needed {
+            calls.push(Call::new(operation, &vec![1; arguments]));
+            calls.push(known_check());
+            expected.push(0);
+            expected.extend(KNOWN_ANSWER);
+        }
+    }
+    assert_output(&all_cells(&calls), &expected);
+}
+
+#[test]
+fn further_arguments_of_check_and_judge_are_not_looked_at() {
+    let calls = [
+        Call::new(CHECK, &[1 << 47, 5]),
+        Call::new(CHECK, &[1 << 47, u64::MAX, 1, 1, 1, 1]),
+        Call::new(JUDGE, &[0, 30, 2]),
+        Call::new(JUDGE, &[2, 30, 0, 30, 0, 30]),
+        known_check(),
+    ];
+    let answers = [
+        number(0x8005),
+        number(0x8005),
+        number(1),
+        MODE,
+        number(0x8005),
+    ];
+    let expected: Vec<u64> = answers.into_iter().flat_map(|answer| [1, answer]).collect();
+    assert_output(&all_cells(&calls), &expected);
+}
+
+#[test]
+fn input_that_ends_inside_a_call_ends_the_program() {
+    let whole = to_bytes(&all_cells(&[Call::new(99, &[]), known_check()]));
+    let cuts: Vec<Vec<u8>> = (0..=whole.len()).map(|end| whole[..end].to_vec()).collect();
+    assert_scripts_agree(&cuts);
+}
+
+#[test]
+fn a_call_with_more_arguments_than_the_input_has_is_not_answered() {
+    // Some of these become small numbers if only their low half is taken, or if they are
+    // counted in bytes, eight for each cell.
+    let numbers = [
+        u64::MAX,
+        u64::MAX - 1,
+        1 << 63,
+        1 << 61,
+        (1 << 61) + 1,
+        (1 << 32) + 1,
+    ];
+    let mut scripts = Vec::new();
+    for (index, number_of_arguments) in numbers.into_iter().enumerate() {
+        let operation = [CHECK, JUDGE, WRITE, 99][index % 4];
+        let mut cells = known_check().cells();
+        cells.extend([operation, number_of_arguments, 0, 0, 0, 0]);
+        cells.extend(known_check().cells());
+        scripts.push(to_bytes(&cells));
+    }
+    assert_scripts_agree(&scripts);
+}
+
+#[test]
+fn empty_input_gives_empty_output() {
+    assert_output(&[], &[]);
+}
+
+#[test]
+fn exactly_65_536_cells_are_all_answered() {
+    // The last cell is the last of a short call.
+    let mut cells = shortest_calls((MOST_CELLS - 4) / 2);
+    let mut expected = vec![0; (MOST_CELLS - 4) / 2];
+    cells.extend(Call::judge(0, 30).cells());
+    expected.extend([1, number(1)]);
+    assert_eq!(cells.len(), MOST_CELLS);
+    assert_output(&cells, &expected);
+}
+
+#[test]
+fn one_call_may_fill_all_65_536_cells() {
+    let entries = vec![5; MOST_CELLS - 6];
+    let call = Call::write(0, 0, 0, entries.len() as u64 - 81, &entries);
+    assert_eq!(call.length(), MOST_CELLS);
+    let longer = Call::write(0, 0, 0, 0, &vec![5; MOST_CELLS - 5]);
+    assert_scripts_agree(&[to_bytes(&call.cells()), to_bytes(&longer.cells())]);
+}
+
+#[test]
+fn a_call_after_cell_65_536_is_not_answered() {
+    let calls = MOST_CELLS / 2;
+    let mut cells = shortest_calls(calls);
+    cells.extend(known_check().cells());
+    assert_output(&cells, &vec![0; calls]);
+}
+
+#[test]
+fn a_call_that_reaches_past_cell_65_536_ends_the_program() {
+    // Of the first check after the long call, one or two cells are within the limit.
+    for within in [1, 2] {
+        let mut calls = vec![known_check(); 2];
+        calls.push(Call::new(0, &vec![0; MOST_CELLS - 2 * 3 - 2 - within]));
+        assert_eq!(all_cells(&calls).len(), MOST_CELLS - within);
+        calls.extend([known_check(), known_check()]);
+        let expected = [&KNOWN_ANSWER[..], &KNOWN_ANSWER[..], &[0]].concat();
+        assert_output(&all_cells(&calls), &expected);
+    }
+}
+
+#[test]
+fn input_far_longer_than_the_limit_does_not_hang() {
+    let cells = shortest_calls(4 * MOST_CELLS);
+    assert_output(&cells, &vec![0; MOST_CELLS / 2]);
+}

@@ -1,0 +1,146 @@
+//! Random input, most of it nonsense: `drive` must end well and do what the model does.
+
+use compare::agreement::assert_scripts_agree;
+use compare::call::{all_cells, Call};
+use compare::cells::to_bytes;
+use compare::generate::{check_call, judge_call, write_call};
+use compare::kinds::{Kind, Kinds};
+use compare::model;
+use compare::random::Random;
+
+const SCRIPTS: usize = 300;
+
+const MOST_BYTES: u64 = 2000;
+
+#[test]
+fn random_scripts_give_what_the_model_gives() {
+    let mut random = Random::from_environment();
+    let scripts: Vec<Vec<u8>> = (0..SCRIPTS).map(|_| modelled_script(&mut random)).collect();
+    let mut met = Kinds::new(SCRIPT_KINDS);
+    scripts.iter().for_each(|script| met.count(script));
+    met.assert_all_met();
+    assert_scripts_agree(&scripts);
+}
+
+const SCRIPT_KINDS: &[Kind<Vec<u8>>] = &[
+    ("no whole call", |script| {
+        model::whole_calls(script).is_empty()
+    }),
+    ("three whole calls or more", |script| {
+        model::whole_calls(script).len() >= 3
+    }),
+    ("ends inside a call", |script| left_over(script) > 0),
+    ("ends with a whole call", |script| left_over(script) == 0),
+    ("ends inside a cell", |script| script.len() % 8 != 0),
+    ("has an answered check, judgement and writing", |script| {
+        let calls = model::whole_calls(script);
+        (1..=3).all(|operation| {
+            let is_answered = |call: &Call| model::answer_cells(call) != Ok(Vec::new());
+            let mut of_this = calls.iter().filter(|call| call.operation == operation);
+            of_this.any(is_answered)
+        })
+    }),
+    ("has a call with too few arguments", |script| {
+        model::whole_calls(script).iter().any(|call| {
+            (1..=3).contains(&call.operation) && model::answer_cells(call) == Ok(Vec::new())
+        })
+    }),
+    ("has an unknown operation", |script| {
+        let calls = model::whole_calls(script);
+        calls
+            .iter()
+            .any(|call| call.operation == 0 || call.operation >= 8)
+    }),
+];
+
+/// The number of bytes after the last whole call.
+fn left_over(script: &[u8]) -> usize {
+    let calls = model::whole_calls(script);
+    script.len() - 8 * calls.iter().map(Call::length).sum::<usize>()
+}
+
+/// A script that asks for no operation that the model does not have yet.
+fn modelled_script(random: &mut Random) -> Vec<u8> {
+    loop {
+        let script = script(random);
+        if model::output(&script).is_ok() {
+            return script;
+        }
+    }
+}
+
+fn script(random: &mut Random) -> Vec<u8> {
+    match random.below(6) {
+        0 => random_bytes(random),
+        1 => small_cells(random),
+        2 => calls(random),
+        3 => cut(random),
+        _ => disturbed(random),
+    }
+}
+
+fn random_bytes(random: &mut Random) -> Vec<u8> {
+    let length = random.below(MOST_BYTES + 1);
+    (0..length).map(|_| random.any_number() as u8).collect()
+}
+
+/// Cells that are mostly small, so that many of them can be read as calls.
+fn small_cells(random: &mut Random) -> Vec<u8> {
+    let length = random.below(MOST_BYTES / 8 + 1);
+    let cells: Vec<u64> = (0..length).map(|_| small_cell(random)).collect();
+    to_bytes(&cells)
+}
+
+fn small_cell(random: &mut Random) -> u64 {
+    match random.below(20) {
+        0 => 8 + random.below(10),
+        1 => random.any_number() >> random.below(64),
+        _ => random.below(4),
+    }
+}
+
+/// Sound calls, as many as there is room for.
+fn calls(random: &mut Random) -> Vec<u8> {
+    let most = random.below(MOST_BYTES + 1) as usize;
+    let mut bytes = Vec::new();
+    loop {
+        let call = to_bytes(&any_call(random).cells());
+        if bytes.len() + call.len() > most {
+            return bytes;
+        }
+        bytes.extend(call);
+    }
+}
+
+fn any_call(random: &mut Random) -> Call {
+    match random.below(8) {
+        0 => Call::new(random.pick(&[0, 8, 99, u64::MAX]), &[3; 4]),
+        1 => Call::new(1 + random.below(3), &[1]),
+        2 => write_call(random),
+        3 => Call::write(random.below(3), 0, 0, 0, &[9; 3]),
+        4 | 5 => judge_call(random),
+        _ => check_call(random),
+    }
+}
+
+/// Sound calls that end somewhere inside.
+fn cut(random: &mut Random) -> Vec<u8> {
+    let mut bytes = calls(random);
+    bytes.truncate(random.below(bytes.len() as u64 + 1) as usize);
+    bytes
+}
+
+/// Sound calls with one cell put in, taken out or changed, so that what follows is
+/// read at the wrong place.
+fn disturbed(random: &mut Random) -> Vec<u8> {
+    let script: Vec<Call> = (0..=random.below(10)).map(|_| any_call(random)).collect();
+    let mut cells = all_cells(&script);
+    cells.truncate(MOST_BYTES as usize / 8);
+    let place = random.below(cells.len() as u64) as usize;
+    match random.below(3) {
+        0 if cells.len() < MOST_BYTES as usize / 8 => cells.insert(place, small_cell(random)),
+        1 => drop(cells.remove(place)),
+        _ => cells[place] = small_cell(random),
+    }
+    to_bytes(&cells)
+}

@@ -1,0 +1,37 @@
+//! An answer as one number: the top byte says which kind it is, the rest is its value.
+
+/// Refusal 12: the place is past the end, or the page does not fit from there on.
+pub const ROOM: u64 = refusal(12);
+/// Refusal 13: the word is 2^48 or more.
+pub const WIDE: u64 = refusal(13);
+/// Refusal 14: the mode is neither 0 nor 1.
+pub const MODE: u64 = refusal(14);
+/// The gap is at the quiet limit or longer.
+pub const QUIET: u64 = 0x85 << 56;
+/// The gap is neither a number of positions nor quiet.
+pub const UNFIT: u64 = 0x86 << 56;
+
+/// The refusal with this number of document 01.
+pub const fn refusal(number: u64) -> u64 {
+    number << 56
+}
+
+/// A plain number: check bits, a count of readings, or the positions of a gap.
+pub const fn number(value: u64) -> u64 {
+    (0x84 << 56) | value
+}
+
+#[cfg(test)]
+mod tests {
+    use super::*;
+
+    #[test]
+    fn the_kind_is_in_the_top_byte() {
+        assert_eq!(ROOM, 0x0C00_0000_0000_0000);
+        assert_eq!(WIDE, 0x0D00_0000_0000_0000);
+        assert_eq!(MODE, 0x0E00_0000_0000_0000);
+        assert_eq!(number(81), 0x8400_0000_0000_0051);
+        assert_eq!(QUIET, 0x8500_0000_0000_0000);
+        assert_eq!(UNFIT, 0x8600_0000_0000_0000);
+    }
+}

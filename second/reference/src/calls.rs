@@ -1,0 +1,97 @@
+//! The calls that programs outside can make, each with its answer as one number.
+//! Wrong things are looked at in 01's order: Mode, Wide, Room.
+
+use crate::line_mode::line_mode;
+use crate::{answer, check, gap, page};
+
+/// The check bits of a word, or Wide.
+pub fn check(word: u64) -> u64 {
+    if check::fits_a_page(word) {
+        answer::number(check::check_bits(word))
+    } else {
+        answer::WIDE
+    }
+}
+
+/// What a gap counts as, or Mode.
+pub fn judge(mode: u64, gap: u32) -> u64 {
+    match line_mode(mode) {
+        Some(mode) => gap::judge_gap(mode, gap),
+        None => answer::MODE,
+    }
+}
+
+/// Puts the readings of a page into the list from the place on and answers their
+/// number. Everything else in the list stays as it was, and all of it on a refusal.
+pub fn write(list: &mut [u32], place: u64, mode: u64, word: u64, first: u32) -> u64 {
+    let Some(mode) = line_mode(mode) else {
+        return answer::MODE;
+    };
+    if !check::fits_a_page(word) {
+        return answer::WIDE;
+    }
+    let readings = page::readings(mode, word, first);
+    match room_for(list, place, readings.len()) {
+        Some(room) => room.copy_from_slice(&readings),
+        None => return answer::ROOM,
+    }
+    answer::number(readings.len() as u64)
+}
+
+/// The part of the list that starts at the place and has so many entries, if it is there.
+fn room_for(list: &mut [u32], place: u64, entries: usize) -> Option<&mut [u32]> {
+    let place = usize::try_from(place).ok()?;
+    list.get_mut(place..)?.get_mut(..entries)
+}
+
+#[cfg(test)]
+mod tests {
+    use super::*;
+
+    const TOO_WIDE: u64 = 1 << 48;
+
+    #[test]
+    fn check_refuses_a_wide_word() {
+        assert_eq!(check(TOO_WIDE), answer::WIDE);
+        assert_eq!(check(TOO_WIDE - 1) >> 56, 0x84);
+    }
+
+    #[test]
+    fn judge_refuses_every_other_mode() {
+        for mode in [2, 3, 1 << 32, (1 << 32) + 1, u64::MAX] {
+            assert_eq!(judge(mode, 30), answer::MODE);
+        }
+    }
+
+    #[test]
+    fn writing_changes_the_page_and_nothing_else() {
+        let mut list = [7; 90];
+        assert_eq!(write(&mut list, 4, 0, 0, 1000), answer::number(81));
+        assert_eq!(list[..4], [7; 4]);
+        assert_eq!(list[4..8], [1000, 1030, 1060, 1120]);
+        assert_eq!(list[84], 1000 + 4680);
+        assert_eq!(list[85..], [7; 5]);
+    }
+
+    #[test]
+    fn a_list_of_84_takes_zero_and_refuses_the_highest_bit() {
+        assert_eq!(write(&mut [7; 84], 0, 0, 0, 0), answer::number(81));
+        let mut list = [7; 84];
+        assert_eq!(write(&mut list, 0, 0, 1 << 47, 0), answer::ROOM);
+        assert_eq!(list, [7; 84]);
+    }
+
+    #[test]
+    fn the_order_is_mode_then_wide_then_room() {
+        assert_eq!(write(&mut [], 0, 2, TOO_WIDE, 0), answer::MODE);
+        assert_eq!(write(&mut [], 0, 1, TOO_WIDE, 0), answer::WIDE);
+        assert_eq!(write(&mut [], 0, 1, 0, 0), answer::ROOM);
+    }
+
+    #[test]
+    fn places_past_the_end_have_no_room() {
+        for place in [90, 91, 1 << 32, 1 << 63, u64::MAX] {
+            assert_eq!(write(&mut [7; 90], place, 0, 0, 0), answer::ROOM);
+        }
+    }
+}
