@@ -37,65 +37,65 @@ count-more test n = by (test (suc n))
     by false = sym (add-zero (length (positionsTo test n)))
 
 abbrev delimiterCount : Bool → ℕ
-delimiterCount low = cond low 20 15
+delimiterCount slow = cond slow 20 15
 
-delimiter-count : (low : Bool) (bits : List Bool) → length (positionsTo (hasTransition low bits) 26) ≡ delimiterCount low
+delimiter-count : (slow : Bool) (bits : List Bool) → length (positionsTo (hasTransition slow bits) 26) ≡ delimiterCount slow
 unfolding positionsTo hasTransition
 delimiter-count true bits = refl
 delimiter-count false bits = refl
 
 -- A clock and a bit more.
-pair-count : (low : Bool) (bits : List Bool) (k : ℕ) → k < 64
-    → length (positionsTo (hasTransition low bits) (28 + 2 * k)) ≡ length (positionsTo (hasTransition low bits) (26 + 2 * k)) + (1 + bit (getD bits k false))
-pair-count low bits k h =
+pair-count : (slow : Bool) (bits : List Bool) (k : ℕ) → k < 64
+    → length (positionsTo (hasTransition slow bits) (28 + 2 * k)) ≡ length (positionsTo (hasTransition slow bits) (26 + 2 * k)) + (1 + bit (getD bits k false))
+pair-count slow bits k h =
     ap (λ (n : ℕ). length (positionsTo test n)) (let e : 28 + 2 * k ≡ suc (suc (26 + 2 * k)) = omega arith in e)
     ∙ count-more test (suc (26 + 2 * k))
     ∙ ap₂ _+_ (count-more test (26 + 2 * k) ∙ ap (λ (t : Bool). length (positionsTo test (26 + 2 * k)) + bit t) clock) (ap bit value)
     ∙ add-assoc (length (positionsTo test (26 + 2 * k))) 1 (bit (getD bits k false))
   where
     test : ℕ → Bool
-    test = hasTransition low bits
+    test = hasTransition slow bits
 
-    clock : hasTransition low bits (suc (26 + 2 * k)) ≡ true
-    clock = at-clock low bits (suc (26 + 2 * k)) (omega arith) (omega arith) (omega arith)
+    clock : hasTransition slow bits (suc (26 + 2 * k)) ≡ true
+    clock = at-clock slow bits (suc (26 + 2 * k)) (omega arith) (omega arith) (omega arith)
 
-    value : hasTransition low bits (suc (suc (26 + 2 * k))) ≡ getD bits k false
+    value : hasTransition slow bits (suc (suc (26 + 2 * k))) ≡ getD bits k false
     value =
-        at-bit low bits (suc (suc (26 + 2 * k))) (omega arith) (omega arith) (λ o. omega arith)
+        at-bit slow bits (suc (suc (26 + 2 * k))) (omega arith) (omega arith) (λ o. omega arith)
         ∙ ap (λ (j : ℕ). getD bits j false) (let e : (suc (suc (26 + 2 * k)) - 28) / 2 ≡ k = omega arith in e)
 
-bits-count : (low : Bool) (bits : List Bool) → length bits ≡ 64 → (k : ℕ) → k ≤ 64
-    → length (positionsTo (hasTransition low bits) (26 + 2 * k)) ≡ delimiterCount low + (k + trues (take k bits))
-bits-count low bits h zero l = delimiter-count low bits ∙ sym (add-zero (delimiterCount low))
-bits-count low bits h (suc k) l =
-    ap (λ (n : ℕ). length (positionsTo (hasTransition low bits) n)) (let e : 26 + 2 * suc k ≡ 28 + 2 * k = omega arith in e)
-    ∙ pair-count low bits k l
-    ∙ ap (λ (n : ℕ). n + (1 + bit (getD bits k false))) (bits-count low bits h k (omega arith))
+bits-count : (slow : Bool) (bits : List Bool) → length bits ≡ 64 → (k : ℕ) → k ≤ 64
+    → length (positionsTo (hasTransition slow bits) (26 + 2 * k)) ≡ delimiterCount slow + (k + trues (take k bits))
+bits-count slow bits h zero l = delimiter-count slow bits ∙ sym (add-zero (delimiterCount slow))
+bits-count slow bits h (suc k) l =
+    ap (λ (n : ℕ). length (positionsTo (hasTransition slow bits) n)) (let e : 26 + 2 * suc k ≡ 28 + 2 * k = omega arith in e)
+    ∙ pair-count slow bits k l
+    ∙ ap (λ (n : ℕ). n + (1 + bit (getD bits k false))) (bits-count slow bits h k (omega arith))
     ∙ omega (arith, more)
   where
     more : trues (take (suc k) bits) ≡ trues (take k bits) + (bit (getD bits k false) + 0)
     more = ap trues (take-suc bits k false (omega arith)) ∙ trues-append (take k bits) (getD bits k false ∷ [])
 
 -- The end: 155 and 157.
-end-count : (low : Bool) (bits : List Bool)
-    → length (positionsTo (hasTransition low bits) 157) ≡ length (positionsTo (hasTransition low bits) 154) + 2
-end-count low bits =
+end-count : (slow : Bool) (bits : List Bool)
+    → length (positionsTo (hasTransition slow bits) 157) ≡ length (positionsTo (hasTransition slow bits) 154) + 2
+end-count slow bits =
     count-more test 156
     ∙ ap₂ (λ (n : ℕ) (t : Bool). n + bit t) (count-more test 155
     ∙ ap₂ (λ (n : ℕ) (t : Bool). n + bit t) (count-more test 154 ∙ ap (λ (t : Bool). length (positionsTo test 154) + bit t) at155) at156) at157
     ∙ omega arith
   where
     test : ℕ → Bool
-    test = hasTransition low bits
+    test = hasTransition slow bits
 
-    at155 : hasTransition low bits 155 ≡ true
-    at155 = at-clock low bits 155 (omega arith) (omega arith) refl
+    at155 : hasTransition slow bits 155 ≡ true
+    at155 = at-clock slow bits 155 (omega arith) (omega arith) refl
 
-    at156 : hasTransition low bits 156 ≡ false
-    at156 = at-156 low bits 156 (omega arith) (omega arith) (λ o. omega arith)
+    at156 : hasTransition slow bits 156 ≡ false
+    at156 = at-156 slow bits 156 (omega arith) (omega arith) (λ o. omega arith)
 
-    at157 : hasTransition low bits 157 ≡ true
-    at157 = at-clock low bits 157 (omega arith) (omega arith) refl
+    at157 : hasTransition slow bits 157 ≡ true
+    at157 = at-clock slow bits 157 (omega arith) (omega arith) refl
 
 -- The ones of a word's bits, lowest first, and of a number's digits, highest first.
 ones-zero : ones 0 ≡ 0
@@ -127,25 +127,25 @@ sent-ones w h =
     (ap trues (checkList-digits w) ∙ ones-digits 16 (checkBits w) ∙ ap ones (mod-eq-of-lt (check-below w)))
 
 -- The number of a page's transitions.
-pub edge-count : (low : Bool) (w : ℕ) → w < 2 ^ 48 → length (transitions low w) ≡ ones w + ones (checkBits w) + cond low 86 81
+pub edge-count : (slow : Bool) (w : ℕ) → w < 2 ^ 48 → length (transitions slow w) ≡ ones w + ones (checkBits w) + cond slow 86 81
 unfolding transitions
-edge-count low w h =
-    end-count low (sentBits w)
-    ∙ ap (λ (n : ℕ). n + 2) (bits-count low (sentBits w) (sent-length w) 64 (omega arith)
-    ∙ ap (λ (n : ℕ). delimiterCount low + (64 + n)) (ap trues (take-all 64 (sentBits w) (omega (arith, sent-length w))) ∙ sent-ones w h))
-    ∙ sums low
+edge-count slow w h =
+    end-count slow (sentBits w)
+    ∙ ap (λ (n : ℕ). n + 2) (bits-count slow (sentBits w) (sent-length w) 64 (omega arith)
+    ∙ ap (λ (n : ℕ). delimiterCount slow + (64 + n)) (ap trues (take-all 64 (sentBits w) (omega (arith, sent-length w))) ∙ sent-ones w h))
+    ∙ sums slow
   where
     sums : (t : Bool) → delimiterCount t + (64 + (ones w + ones (checkBits w))) + 2 ≡ ones w + ones (checkBits w) + cond t 86 81
     sums true = omega arith
     sums false = omega arith
 
 -- No page has more than 150.
-pub edge-most : (low : Bool) (w : ℕ) → w < 2 ^ 48 → length (transitions low w) ≤ 150
-edge-most low w h =
+pub edge-most : (slow : Bool) (w : ℕ) → w < 2 ^ 48 → length (transitions slow w) ≤ 150
+edge-most slow w h =
     let a = ones-le 48 w h in
     let b = ones-le 16 (checkBits w) (check-below w) in
-    let c = most low in
-    let e = edge-count low w h in omega arith
+    let c = most slow in
+    let e = edge-count slow w h in omega arith
   where
     most : (t : Bool) → cond t 86 81 ≤ 86
     most true = omega arith

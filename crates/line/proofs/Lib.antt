@@ -1,6 +1,7 @@
-pub mod ComputedTest
 pub mod SentBits
 pub mod PagePattern
 pub mod EdgeCount
 pub mod WritingLoop
 pub mod WrittenList
+pub mod LineExamples
+pub mod Windows

@@ -10,15 +10,15 @@ use borrow.Author.Tests.{leb-false, eqb-false, le-leb, lt-leb, eq-eqb, ne-eqb}
 use Rattle.page.specs.Word.{odd}
 use Rattle.page.specs.CheckBits.{checkBits}
 use Rattle.line.specs.Transitions.{among, hsmDelimiter, lsmDelimiter, hasTransition, sentBits}
-use Rattle.line.proofs.ComputedTest.{everyBelow, at-each, beq-equal}
+use Rattle.page.proofs.ComputedTest.{everyBelow, at-each, beq-equal}
 use Rattle.line.proofs.SentBits.{data-bit, check-bit}
 
-module _ (low : Bool) (bits : List Bool) (p : ℕ) where
-  pub in-delimiter : p ≤ 26 → hasTransition low bits p ≡ among p (cond low lsmDelimiter hsmDelimiter)
+module _ (slow : Bool) (bits : List Bool) (p : ℕ) where
+  pub in-delimiter : p ≤ 26 → hasTransition slow bits p ≡ among p (cond slow lsmDelimiter hsmDelimiter)
   unfolding hasTransition
   in-delimiter h = rw (le-leb p 26 h)
 
-  pub at-clock : 26 < p → p ≤ 157 → p % 2 ≡ 1 → hasTransition low bits p ≡ true
+  pub at-clock : 26 < p → p ≤ 157 → p % 2 ≡ 1 → hasTransition slow bits p ≡ true
   unfolding hasTransition
   at-clock h l o = rw (lt-leb p 26 h) (by (leb p 154) refl)
     where
@@ -30,11 +30,11 @@ module _ (low : Bool) (bits : List Bool) (p : ℕ) where
       by true e = rw (eq-eqb (p % 2) 1 o)
       by false e = last (leb-false p 154 e) (eqb p 155) refl
 
-  pub at-bit : 26 < p → p ≤ 154 → (p % 2 ≡ 1 → ⊥) → hasTransition low bits p ≡ getD bits ((p - 28) / 2) false
+  pub at-bit : 26 < p → p ≤ 154 → (p % 2 ≡ 1 → ⊥) → hasTransition slow bits p ≡ getD bits ((p - 28) / 2) false
   unfolding hasTransition
   at-bit h l e = rw (lt-leb p 26 h, le-leb p 154 l, ne-eqb (p % 2) 1 e)
 
-  pub at-156 : 154 < p → p ≤ 157 → (p % 2 ≡ 1 → ⊥) → hasTransition low bits p ≡ false
+  pub at-156 : 154 < p → p ≤ 157 → (p % 2 ≡ 1 → ⊥) → hasTransition slow bits p ≡ false
   unfolding hasTransition
   at-156 h l e =
       let a : 26 < p = omega arith in
@@ -49,26 +49,26 @@ by-mask : (mask : ℕ) (list : List ℕ) → everyBelow 27 (agrees mask list) �
 by-mask mask list h p l = beq-equal (odd (mask / 2 ^ p)) (among p list) (at-each 27 (agrees mask list) h p (omega arith))
 
 -- So a page has its delimiter's transitions where the mask of its mode has a one.
-module _ (low : Bool) (bits : List Bool) (p : ℕ) (h : p ≤ 26) where
-  pub at-hsm : low ≡ false → hasTransition low bits p ≡ odd (120123822 / 2 ^ p)
+module _ (slow : Bool) (bits : List Bool) (p : ℕ) (h : p ≤ 26) where
+  pub at-hsm : slow ≡ false → hasTransition slow bits p ≡ odd (120123822 / 2 ^ p)
   at-hsm e =
-      in-delimiter low bits p h ∙ ap (λ (t : Bool). among p (cond t lsmDelimiter hsmDelimiter)) e
+      in-delimiter slow bits p h ∙ ap (λ (t : Bool). among p (cond t lsmDelimiter hsmDelimiter)) e
       ∙ sym (by-mask 120123822 hsmDelimiter refl p h)
 
-  pub at-lsm : low ≡ true → hasTransition low bits p ≡ odd (98413566 / 2 ^ p)
+  pub at-lsm : slow ≡ true → hasTransition slow bits p ≡ odd (98413566 / 2 ^ p)
   at-lsm e =
-      in-delimiter low bits p h ∙ ap (λ (t : Bool). among p (cond t lsmDelimiter hsmDelimiter)) e
+      in-delimiter slow bits p h ∙ ap (λ (t : Bool). among p (cond t lsmDelimiter hsmDelimiter)) e
       ∙ sym (by-mask 98413566 lsmDelimiter refl p h)
 
-module _ (low : Bool) (w p : ℕ) where
+module _ (slow : Bool) (w p : ℕ) where
   -- At an even position up to 122 stands a bit of the word,
-  pub at-data : 26 < p → p ≤ 122 → (p % 2 ≡ 1 → ⊥) → hasTransition low (sentBits w) p ≡ odd (w / 2 ^ ((p - 28) / 2))
-  at-data h l e = at-bit low (sentBits w) p h (omega arith) e ∙ data-bit w ((p - 28) / 2) (omega arith)
+  pub at-data : 26 < p → p ≤ 122 → (p % 2 ≡ 1 → ⊥) → hasTransition slow (sentBits w) p ≡ odd (w / 2 ^ ((p - 28) / 2))
+  at-data h l e = at-bit slow (sentBits w) p h (omega arith) e ∙ data-bit w ((p - 28) / 2) (omega arith)
 
   -- and from 124 on one of the check bits.
-  pub at-check : 122 < p → p ≤ 154 → (p % 2 ≡ 1 → ⊥) → hasTransition low (sentBits w) p ≡ odd (checkBits w / 2 ^ ((154 - p) / 2))
+  pub at-check : 122 < p → p ≤ 154 → (p % 2 ≡ 1 → ⊥) → hasTransition slow (sentBits w) p ≡ odd (checkBits w / 2 ^ ((154 - p) / 2))
   at-check h l e =
-      at-bit low (sentBits w) p (omega arith) l e
+      at-bit slow (sentBits w) p (omega arith) l e
       ∙ ap (λ (j : ℕ). getD (sentBits w) j false) (let i : (p - 28) / 2 ≡ 48 + (p - 124) / 2 = omega arith in i)
       ∙ check-bit w ((p - 124) / 2) (omega arith)
       ∙ ap (λ (j : ℕ). odd (checkBits w / 2 ^ j)) (let i : 15 - (p - 124) / 2 ≡ (154 - p) / 2 = omega arith in i)

@@ -9,7 +9,7 @@ use native.Mathlib.Omega.{arith}
 use lib.ListN.{length, getD, drop, set, length-append, length-drop, length-map}
 use lib.Seq.{drop-cons, set-at}
 use Rattle.line.specs.declared.modes.LineMode.{LineMode}
-use Rattle.line.specs.Transitions.{hasTransition, sentBits, positionsTo, transitions, readingAt, readings, edges}
+use Rattle.line.specs.Transitions.{hasTransition, sentBits, positionsTo, transitions, readingAt, readings, edgeCount}
 use Rattle.line.proofs.EdgeCount.{count-more}
 use Rattle.page.proofs.BinaryNumbers.{bit}
 
@@ -35,35 +35,35 @@ count-to-end test n h =
     (count-grows test n (157 - n))
 
 -- What holds whenever the loop's test is reached: so many positions are passed.
-pub record Writing (low : Bool) (spacing word first : ℕ) (before list : List ℕ) (clock count passed : ℕ) : Type 0 where
+pub record Writing (slow : Bool) (spacing word first : ℕ) (before list : List ℕ) (clock count passed : ℕ) : Type 0 where
   pub most : passed ≤ 157
   pub time : clock ≡ (first + passed * spacing) % 2 ^ 32
-  pub number : count ≡ length (positionsTo (hasTransition low (sentBits word)) passed)
-  pub contents : list ≡ map (readingAt spacing first) (positionsTo (hasTransition low (sentBits word)) passed) ++ drop count before
+  pub number : count ≡ length (positionsTo (hasTransition slow (sentBits word)) passed)
+  pub contents : list ≡ map (readingAt spacing first) (positionsTo (hasTransition slow (sentBits word)) passed) ++ drop count before
 
-pub start : (low : Bool) (spacing word first : ℕ) (before : List ℕ) → first < 2 ^ 32 → Writing low spacing word first before before first 0 0
+pub start : (slow : Bool) (spacing word first : ℕ) (before : List ℕ) → first < 2 ^ 32 → Writing slow spacing word first before before first 0 0
 unfolding positionsTo
-start low spacing word first before h =
+start slow spacing word first before h =
     record { most = omega arith; time = sym (ap (λ (x : ℕ). (first + x) % 2 ^ 32) (zero-mul spacing) ∙ omega arith); number = refl; contents = refl }
 
 -- The list keeps its length.
-pub same-long : (low : Bool) (spacing word first : ℕ) (before list : List ℕ) (clock count passed : ℕ)
-    → Writing low spacing word first before list clock count passed
-    → length (positionsTo (hasTransition low (sentBits word)) 157) ≤ length before → length list ≡ length before
-same-long low spacing word first before list clock count passed g enough =
-    let grows = count-to-end (hasTransition low (sentBits word)) passed (g .most) in
+pub same-long : (slow : Bool) (spacing word first : ℕ) (before list : List ℕ) (clock count passed : ℕ)
+    → Writing slow spacing word first before list clock count passed
+    → length (positionsTo (hasTransition slow (sentBits word)) 157) ≤ length before → length list ≡ length before
+same-long slow spacing word first before list clock count passed g enough =
+    let grows = count-to-end (hasTransition slow (sentBits word)) passed (g .most) in
     let n = g .number in
-    let head = map (readingAt spacing first) (positionsTo (hasTransition low (sentBits word)) passed) in
-    let l : length (map (readingAt spacing first) (positionsTo (hasTransition low (sentBits word)) passed)) ≡ count
-    = length-map (positionsTo (hasTransition low (sentBits word)) passed) (readingAt spacing first) ∙ sym n in
-    let all = ap length (g .contents) ∙ length-append (map (readingAt spacing first) (positionsTo (hasTransition low (sentBits word)) passed)) (drop count before) in
+    let head = map (readingAt spacing first) (positionsTo (hasTransition slow (sentBits word)) passed) in
+    let l : length (map (readingAt spacing first) (positionsTo (hasTransition slow (sentBits word)) passed)) ≡ count
+    = length-map (positionsTo (hasTransition slow (sentBits word)) passed) (readingAt spacing first) ∙ sym n in
+    let all = ap length (g .contents) ∙ length-append (map (readingAt spacing first) (positionsTo (hasTransition slow (sentBits word)) passed)) (drop count before) in
     let d = length-drop count before in omega arith
 
-module _ (low : Bool) (spacing word first : ℕ) (before list : List ℕ) (clock count passed : ℕ)
-    (g : Writing low spacing word first before list clock count passed) (h : passed < 157)
+module _ (slow : Bool) (spacing word first : ℕ) (before list : List ℕ) (clock count passed : ℕ)
+    (g : Writing slow spacing word first before list clock count passed) (h : passed < 157)
   where
     test : ℕ → Bool
-    test = hasTransition low (sentBits word)
+    test = hasTransition slow (sentBits word)
 
     reading : ℕ → ℕ
     reading = readingAt spacing first
@@ -87,7 +87,7 @@ module _ (low : Bool) (spacing word first : ℕ) (before list : List ℕ) (clock
     now-reading = ap (λ (n : ℕ). (first + n * spacing) % 2 ^ 32) (let e : suc passed - 1 ≡ passed = omega arith in e) ∙ sym (g .time)
 
     -- A transition that is not yet written has an entry to go to.
-    pub room : hasTransition low (sentBits word) (passed + 1) ≡ true → length (positionsTo (hasTransition low (sentBits word)) 157) ≤ length before
+    pub room : hasTransition slow (sentBits word) (passed + 1) ≡ true → length (positionsTo (hasTransition slow (sentBits word)) 157) ≤ length before
         → count < length before
     unfolding test
     room there enough =
@@ -96,8 +96,8 @@ module _ (low : Bool) (spacing word first : ℕ) (before list : List ℕ) (clock
         let grows = count-to-end test (suc passed) h in
         let n = g .number in omega arith
 
-    pub turn-yes : hasTransition low (sentBits word) (passed + 1) ≡ true → count < length before
-        → Writing low spacing word first before (set list count clock) ((clock + spacing) % 2 ^ 32) (count + 1) (passed + 1)
+    pub turn-yes : hasTransition slow (sentBits word) (passed + 1) ≡ true → count < length before
+        → Writing slow spacing word first before (set list count clock) ((clock + spacing) % 2 ^ 32) (count + 1) (passed + 1)
     unfolding test reading head
     turn-yes there fits =
         record { most = omega arith; time = time-more; number = number-more; contents = contents-more }
@@ -116,8 +116,8 @@ module _ (low : Bool) (spacing word first : ℕ) (before list : List ℕ) (clock
             ∙ sym (append-assoc head (reading (suc passed) ∷ []) (drop (count + 1) before))
             ∙ ap (λ (l : List ℕ). l ++ drop (count + 1) before) (sym (map-append reading (positionsTo test passed) (suc passed ∷ [])) ∙ ap (map reading) (sym one-more))
 
-    pub turn-no : hasTransition low (sentBits word) (passed + 1) ≡ false
-        → Writing low spacing word first before list ((clock + spacing) % 2 ^ 32) count (passed + 1)
+    pub turn-no : hasTransition slow (sentBits word) (passed + 1) ≡ false
+        → Writing slow spacing word first before list ((clock + spacing) % 2 ^ 32) count (passed + 1)
     unfolding test reading head
     turn-no none =
         record { most = omega arith; time = time-more; number = g .number ∙ ap length (sym same); contents = g .contents ∙ ap (λ (l : List ℕ). map reading l ++ drop count before) (sym same) }
@@ -127,13 +127,13 @@ module _ (low : Bool) (spacing word first : ℕ) (before list : List ℕ) (clock
 
 -- After 157 positions the page is written.
 pub finish : (m : LineMode) (word first : ℕ) (before list : List ℕ) (clock count passed : ℕ)
-    → Writing (m .low) (m .spacing) word first before list clock count passed → 157 ≤ passed
-    → list ≡ readings m word first ++ drop (edges m word) before
-unfolding readings edges transitions
+    → Writing (m .slow) (m .spacing) word first before list clock count passed → 157 ≤ passed
+    → list ≡ readings m word first ++ drop (edgeCount m word) before
+unfolding readings edgeCount transitions
 finish m word first before list clock count passed g h =
     g .contents
-    ∙ ap₂ (λ (n k : ℕ). map (readingAt (m .spacing) first) (positionsTo (hasTransition (m .low) (sentBits word)) n) ++ drop k before) all
-    (g .number ∙ ap (λ (n : ℕ). length (positionsTo (hasTransition (m .low) (sentBits word)) n)) all)
+    ∙ ap₂ (λ (n k : ℕ). map (readingAt (m .spacing) first) (positionsTo (hasTransition (m .slow) (sentBits word)) n) ++ drop k before) all
+    (g .number ∙ ap (λ (n : ℕ). length (positionsTo (hasTransition (m .slow) (sentBits word)) n)) all)
   where
     all : passed ≡ 157
     all = let l = g .most in omega arith

@@ -9,7 +9,7 @@ use lib.Seq.{take-all, drop-drop}
 use borrow.Author.Tests.{lt-ltb, le-ltb, le-leb, lt-leb}
 use Rattle.refusal.specs.Answers.{Said, refused, number}
 use Rattle.line.specs.declared.modes.LineMode.{LineMode}
-use Rattle.line.specs.Transitions.{readings, edges, transitions}
+use Rattle.line.specs.Transitions.{readings, edgeCount, transitions}
 use Rattle.line.specs.Writing.{placed, saysIn, leavesIn}
 use Rattle.line.proofs.EdgeCount.{edge-count}
 
@@ -24,18 +24,18 @@ module _ (m : LineMode) (list : List ℕ) (place w first : ℕ) where
   wide h = record { said = rw (le-ltb w (2 ^ 48) h); left = rw (le-ltb w (2 ^ 48) h) }
 
   module _ (fits : w < 2 ^ 48) where
-    short : length list - place < edges m w → Outcome (refused 12) list
+    short : length list - place < edgeCount m w → Outcome (refused 12) list
     unfolding saysIn leavesIn
     short h =
         record {
-          said = rw (lt-ltb w (2 ^ 48) fits, lt-leb (edges m w) (length list - place) h);
-          left = rw (lt-ltb w (2 ^ 48) fits, lt-leb (edges m w) (length list - place) h);
+          said = rw (lt-ltb w (2 ^ 48) fits, lt-leb (edgeCount m w) (length list - place) h);
+          left = rw (lt-ltb w (2 ^ 48) fits, lt-leb (edgeCount m w) (length list - place) h);
         }
 
-    -- A page has edges, so a place past the end has no room.
-    some : 0 < edges m w
-    unfolding edges
-    some = let e = edge-count (m .low) w fits in let l = least (m .low) in omega arith
+    -- A page has edgeCount, so a place past the end has no room.
+    some : 0 < edgeCount m w
+    unfolding edgeCount
+    some = let e = edge-count (m .slow) w fits in let l = least (m .slow) in omega arith
       where
         least : (t : Bool) → 81 ≤ cond t 86 81
         least true = omega arith
@@ -45,9 +45,9 @@ module _ (m : LineMode) (list : List ℕ) (place w first : ℕ) where
     past h = let e = some in short (omega arith)
 
     -- The number of transitions, as the code has found it.
-    module _ (count : ℕ) (counted : count ≡ length (transitions (m .low) w)) where
+    module _ (count : ℕ) (counted : count ≡ length (transitions (m .slow) w)) where
       pub too-few : length list - place < count → Outcome (refused 12) list
-      unfolding edges
+      unfolding edgeCount
       too-few h = short (subst (λ (n : ℕ). length list - place < n) counted h)
 
       module _ (room : count ≤ length list - place) where
@@ -55,26 +55,26 @@ module _ (m : LineMode) (list : List ℕ) (place w first : ℕ) where
         lent : take (length list - place) (drop place list) ≡ drop place list
         lent = take-all (length list - place) (drop place list) (omega (arith, length-drop place list))
 
-        pub lends : edges m w ≤ length (take (length list - place) (drop place list))
-        unfolding edges
+        pub lends : edgeCount m w ≤ length (take (length list - place) (drop place list))
+        unfolding edgeCount
         lends = rw lent (omega (arith, length-drop place list))
 
         -- Put back, it leaves the page in the list.
-        pub written : (tail : List ℕ) → tail ≡ readings m w first ++ drop (edges m w) (take (length list - place) (drop place list))
+        pub written : (tail : List ℕ) → tail ≡ readings m w first ++ drop (edgeCount m w) (take (length list - place) (drop place list))
             → Outcome (number count) (take place list ++ (tail ++ drop (length list - place) (drop place list)))
-        unfolding saysIn leavesIn edges
+        unfolding saysIn leavesIn edgeCount
         written tail e =
             record {
-              said = rw (lt-ltb w (2 ^ 48) fits, le-leb (edges m w) (length list - place) enough) (ap number counted);
-              left = rw (lt-ltb w (2 ^ 48) fits, le-leb (edges m w) (length list - place) enough) put-back;
+              said = rw (lt-ltb w (2 ^ 48) fits, le-leb (edgeCount m w) (length list - place) enough) (ap number counted);
+              left = rw (lt-ltb w (2 ^ 48) fits, le-leb (edgeCount m w) (length list - place) enough) put-back;
             }
           where
-            enough : edges m w ≤ length list - place
+            enough : edgeCount m w ≤ length list - place
             enough = omega arith
 
             put-back : take place list ++ (tail ++ drop (length list - place) (drop place list)) ≡ placed m list place w first
             put-back =
-                ap₂ (λ (t r : List ℕ). take place list ++ (t ++ r)) (e ∙ ap (λ (t : List ℕ). readings m w first ++ drop (edges m w) t) lent)
+                ap₂ (λ (t r : List ℕ). take place list ++ (t ++ r)) (e ∙ ap (λ (t : List ℕ). readings m w first ++ drop (edgeCount m w) t) lent)
                 (drop-of-length-le (drop place list) {i = length list - place} (omega (arith, length-drop place list)))
-                ∙ ap (λ (t : List ℕ). take place list ++ t) (append-nil (readings m w first ++ drop (edges m w) (drop place list))
-                ∙ ap (λ (t : List ℕ). readings m w first ++ t) (drop-drop (edges m w) place list))
+                ∙ ap (λ (t : List ℕ). take place list ++ t) (append-nil (readings m w first ++ drop (edgeCount m w) (drop place list))
+                ∙ ap (λ (t : List ℕ). readings m w first ++ t) (drop-drop (edgeCount m w) place list))

@@ -2,18 +2,18 @@
 use Prim.Native.Nat.{ℕ, _+_, _*_}
 use mathlib.Core.Bool.{Bool, cond, _&&_}
 use lib.Dec.{leb}
-use Rattle.refusal.specs.Answers.{Said, number, quiet, unfit}
+use Rattle.refusal.specs.Answers.{Said, number, gapQuiet, gapUnfit}
 use Rattle.line.specs.declared.modes.LineMode.{LineMode}
 use Rattle.line.specs.declared.modes.Judgement.{Judgement}
 use Rattle.line.specs.declared.modes.Judgement.the-variants.{Positions, Quiet, Unfit}
-use Rattle.line.specs.Modes.{modeAt, saysBy}
+use Rattle.line.specs.Modes.{modeOf, saysBy}
 
 -- "it lies within k·spacing ± tolerance, ends included"
 abbrev pub within : LineMode → ℕ → ℕ → Bool
 within m k gap = leb (k * m .spacing) (gap + m .tolerance) && leb gap (k * m .spacing + m .tolerance)
 
--- "A gap g counts as k positions (k = 1 to 4) when it lies within k·spacing ± tolerance; it is quiet at the quiet limit or more; else it
--- is unfit." For numbers whose windows meet, which 01's modes are not, the lowest k counts.
+-- "A gap g counts as k positions (k = 1 to 4) when it lies within k·spacing ± tolerance, ends included; it is quiet at the quiet limit or
+-- more; else it is unfit." In 01's two modes no windows meet. Where they do, the lowest k counts, and any k before quiet.
 unfoldable pub judgementOf : LineMode → ℕ → Judgement
 judgementOf m gap =
     cond (within m 1 gap) (Positions 1)
@@ -23,11 +23,11 @@ judgementOf m gap =
     (cond (leb (m .quiet) gap) Quiet Unfit))))
 
 -- The number and value that each judgement says.
-abbrev pub saidOf : Judgement → Said
-saidOf (Positions k) = number k
-saidOf Quiet = quiet
-saidOf Unfit = unfit
+abbrev pub saidOfGap : Judgement → Said
+saidOfGap (Positions k) = number k
+saidOfGap Quiet = gapQuiet
+saidOfGap Unfit = gapUnfit
 
 -- The judge call.
 unfoldable pub judged : ℕ → ℕ → Said
-judged mode gap = saysBy (modeAt mode) (λ m. saidOf (judgementOf m gap))
+judged mode gap = saysBy (modeOf mode) (λ m. saidOfGap (judgementOf m gap))

@@ -13,7 +13,7 @@ abbrev pub among : ℕ → List ℕ → Bool
 among p [] = false
 among p (q ∷ rest) = eqb p q || among p rest
 
--- "Delimiter transitions among 1-26: HSM: 1, 2, 3, 5, 7, 8, 12, 13, 14, 15, 19, 21, 24, 25, 26"
+-- "Delimiter transitions among 1-26", and of these "HSM: 1, 2, 3, 5, 7, 8, 12, 13, 14, 15, 19, 21, 24, 25, 26"
 abbrev pub hsmDelimiter : List ℕ
 hsmDelimiter = 1 ∷ 2 ∷ 3 ∷ 5 ∷ 7 ∷ 8 ∷ 12 ∷ 13 ∷ 14 ∷ 15 ∷ 19 ∷ 21 ∷ 24 ∷ 25 ∷ 26 ∷ []
 
@@ -26,11 +26,11 @@ unfoldable pub sentBits : ℕ → List Bool
 sentBits w = bitsOf 48 w ++ checkList w
 
 -- Whether a page with these 64 bits has a transition at a position from 1 to 157:
--- in 1-26 as the delimiter has it; "Odd positions 27-153 always have one (clock). Even positions 28-154 have one for a one bit. Position
--- 155 has one, 156 none, 157 has one."
+-- in 1-26 as the delimiter has it; "Odd positions 27-153 always have one (clock). Even positions 28-154 have one for a one bit: D0 to D47,
+-- then S15 to S0. Position 155 has one, 156 none, 157 has one."
 unfoldable pub hasTransition : Bool → List Bool → ℕ → Bool
-hasTransition low bits p =
-    cond (leb p 26) (among p (cond low lsmDelimiter hsmDelimiter))
+hasTransition slow bits p =
+    cond (leb p 26) (among p (cond slow lsmDelimiter hsmDelimiter))
     (cond (leb p 154) (cond (odd p) true (getD bits ((p - 28) / 2) false))
     (among p (155 ∷ 157 ∷ [])))
 
@@ -42,7 +42,7 @@ positionsTo test (suc n) =
 
 -- A page's transitions: the positions that have one.
 unfoldable pub transitions : Bool → ℕ → List ℕ
-transitions low w = positionsTo (hasTransition low (sentBits w)) 157
+transitions slow w = positionsTo (hasTransition slow (sentBits w)) 157
 
 -- "at nominal spacing from a given first reading modulo 2^32"
 abbrev pub readingAt : ℕ → ℕ → ℕ → ℕ
@@ -50,8 +50,8 @@ readingAt spacing first p = (first + (p - 1) * spacing) % 2 ^ 32
 
 -- A page's readings, one for each transition.
 unfoldable pub readings : LineMode → ℕ → ℕ → List ℕ
-readings m w first = map (readingAt (m .spacing) first) (transitions (m .low) w)
+readings m w first = map (readingAt (m .spacing) first) (transitions (m .slow) w)
 
--- The number of a page's edges.
-unfoldable pub edges : LineMode → ℕ → ℕ
-edges m w = length (transitions (m .low) w)
+-- The number of a page's transitions, and so of its readings.
+unfoldable pub edgeCount : LineMode → ℕ → ℕ
+edgeCount m w = length (transitions (m .slow) w)

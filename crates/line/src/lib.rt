@@ -4,10 +4,7 @@ mod modes;
 mod transitions;
 mod writer;
 
-pub use clock::since;
-pub use modes::Found;
-pub use modes::Judgement;
+pub use clock::time_between;
 pub use modes::LineMode;
 pub use modes::judge;
-pub use modes::mode_of;
 pub use writer::write;

@@ -4,8 +4,8 @@ ghost use mathlib.Core.Bool.{_&&_};
 ghost use Prim.Native.Nat.{_+_, _≤_};
 ghost use lib.Dec.{leb};
 ghost use Rattle.refusal.specs.Answers.{said};
-ghost use Rattle.line.specs.Modes.{hsmMode, lsmMode, modeAt};
-ghost use Rattle.line.specs.Gaps.{judgementOf, saidOf, judged};
+ghost use Rattle.line.specs.Modes.{hsmMode, lsmMode, modeOf};
+ghost use Rattle.line.specs.Gaps.{judgementOf, saidOfGap, judged};
 use refusal::Answer;
 use refusal::Refusal;
 
@@ -14,7 +14,7 @@ pub struct LineMode {
     pub spacing: u32,
     pub tolerance: u32,
     pub quiet: u32,
-    pub low: bool,
+    pub slow: bool,
 }
 
 // The mode that a number names.
@@ -43,14 +43,14 @@ impl LineMode {
         spacing: 30,
         tolerance: 9,
         quiet: 130,
-        low: false,
+        slow: false,
     };
 
     pub const LSM: LineMode = LineMode {
         spacing: 800,
         tolerance: 240,
         quiet: 3441,
-        low: true,
+        slow: true,
     };
 
     // High speed.
@@ -68,7 +68,7 @@ impl LineMode {
     }
 
     // How many positions a gap counts as, or that it is quiet, or unfit.
-    pub fn judgement(self, gap: u32) -> Judgement
+    pub(crate) fn judgement(self, gap: u32) -> Judgement
         ensures { λ r. ⌜ r ≡ judgementOf self gap ⌝ }
     {
         let g = gap as u64;
@@ -94,8 +94,8 @@ impl LineMode {
 }
 
 // The mode of a number: 0 is HSM, 1 is LSM.
-pub fn mode_of(number: u32) -> Found
-    ensures { λ r. ⌜ r ≡ modeAt number ⌝ }
+pub(crate) fn mode_of(number: u32) -> Found
+    ensures { λ r. ⌜ r ≡ modeOf number ⌝ }
 {
     if number == 0 {
         return Found::Known(LineMode::hsm());
@@ -108,7 +108,7 @@ pub fn mode_of(number: u32) -> Found
 
 // A judgement as an answer.
 fn answer_of(judgement: Judgement) -> Answer
-    ensures { λ r. ⌜ said r ≡ saidOf judgement ⌝ }
+    ensures { λ r. ⌜ said r ≡ saidOfGap judgement ⌝ }
 {
     match judgement {
         Judgement::Positions(k) => Answer::Number(k as u64),

@@ -20,12 +20,12 @@ fn bit_at(number: u64, place: u32) -> bool
 }
 
 // Whether a page has a transition at a position.
-pub(crate) fn transition_at(low: bool, word: u64, check: u32, position: u32) -> bool
+pub(crate) fn transition_at(slow: bool, word: u64, check: u32, position: u32) -> bool
     requires { ⌜ (check ≡ checkBits word) × (position ≤ 157) ⌝ }
-    ensures { λ r. ⌜ r ≡ hasTransition low (sentBits word) position ⌝ }
+    ensures { λ r. ⌜ r ≡ hasTransition slow (sentBits word) position ⌝ }
 {
     if position <= 26 {
-        if low {
+        if slow {
             return bit_at(LSM_DELIMITER, position);
         }
         return bit_at(HSM_DELIMITER, position);
@@ -43,10 +43,10 @@ pub(crate) fn transition_at(low: bool, word: u64, check: u32, position: u32) -> 
 }
 
 // The number of a page's transitions: the delimiter's, 64 clocks, one for each one bit, and those at 155 and 157.
-pub(crate) fn edge_count(low: bool, word: u64, check: u32) -> u32
+pub(crate) fn edge_count(slow: bool, word: u64, check: u32) -> u32
     requires { ⌜ (word < 2 ^ 48) × (check ≡ checkBits word) ⌝ }
-    ensures { λ r. ⌜ r ≡ length (transitions low word) ⌝ }
+    ensures { λ r. ⌜ r ≡ length (transitions slow word) ⌝ }
 {
     let ones = u64::count_ones(word) + u32::count_ones(check);
-    if low { ones + 86 } else { ones + 81 }
+    if slow { ones + 86 } else { ones + 81 }
 }

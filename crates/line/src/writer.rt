@@ -5,7 +5,7 @@ ghost use Prim.Native.Nat.{_≤_};
 ghost use lib.ListN.{length, drop};
 ghost use Rattle.refusal.specs.Answers.{said};
 ghost use Rattle.page.specs.CheckBits.{checkBits};
-ghost use Rattle.line.specs.Transitions.{readings, edges};
+ghost use Rattle.line.specs.Transitions.{readings, edgeCount};
 ghost use Rattle.line.specs.Writing.{saysIn, leavesIn, writeSays, writeLeaves};
 use crate::modes::Found;
 use crate::modes::LineMode;
@@ -20,17 +20,17 @@ const WIDE: u64 = 281474976710656;
 
 // Puts the page's readings at the head of a list that has room for them.
 fn write_page(tail: &mut [u32], mode: LineMode, word: u64, check: u32, first: u32)
-    requires { ⌜ (check ≡ checkBits word) × (edges mode word ≤ length (now tail)) ⌝ }
-    ensures { λ _. ⌜ now (tail .exit) ≡ readings mode word first ++ drop (edges mode word) (now (tail .entry)) ⌝ }
+    requires { ⌜ (check ≡ checkBits word) × (edgeCount mode word ≤ length (now tail)) ⌝ }
+    ensures { λ _. ⌜ now (tail .exit) ≡ readings mode word first ++ drop (edgeCount mode word) (now (tail .entry)) ⌝ }
 {
-    let low = mode.low;
+    let slow = mode.slow;
     let spacing = mode.spacing;
     let mut clock = first;
     let mut count: usize = 0;
     let mut passed: u32 = 0;
     while passed < 157 {
         let position = passed + 1;
-        if transition_at(low, word, check, position) {
+        if transition_at(slow, word, check, position) {
             tail[count] = clock;
             count += 1;
         }
@@ -48,7 +48,7 @@ fn write_in(list: &mut [u32], place: usize, mode: LineMode, word: u64, first: u3
         return Answer::Refused(Refusal::Wide);
     }
     let check = page::check_bits(word);
-    let count = edge_count(mode.low, word, check) as usize;
+    let count = edge_count(mode.slow, word, check) as usize;
     let length = list.len();
     // Length less place, and never place plus count: a place near 2^64 must not wrap.
     if length < place {

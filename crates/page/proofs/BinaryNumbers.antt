@@ -3,16 +3,16 @@ use mathlib.Core.Path.{_≡_, refl, sym, ap, ap₂, _∙_, subst}
 use mathlib.Core.Bool.{Bool, true, false, cond, xor}
 use mathlib.Core.List.{List, [], _∷_, _++_}
 use Prim.Native.Nat.{ℕ, zero, suc, _+_, _-_, _*_, _/_, _%_, _^_, _≤_, _<_}
-use native.Mathlib.Nat.{le-of-suc-le-suc, not-suc-le-zero, mul-assoc, add-mul, add-assoc, pow-suc, mul-comm, zero-mul, zero-add, mul-one, add-zero, mod-one, mod-eq-of-lt}
-use native.Mathlib.Numerals.{one-add}
+use native.Mathlib.Nat.{le-of-suc-le-suc, not-suc-le-zero, mul-assoc, add-mul, add-assoc, pow-suc, mul-comm, zero-mul, one-mul, zero-add, mul-one, add-zero, mod-one, mod-eq-of-lt}
+use native.Mathlib.Numerals.{add-one, one-add}
 use native.Mathlib.Omega.{arith}
-use lib.ListN.{length, replicate, getD}
+use lib.ListN.{length, getD, length-append}
 use lib.Arith.{digits-div}
 use lib.Bits.{bitXor, xor-step, differ}
 use lib.Pow.{mod-pow-add}
 use borrow.Author.Tests.{eqb-true, eqb-false}
 use Rattle.page.specs.Word.{odd}
-use Rattle.page.specs.CheckBits.{plus, numeral, numeralAfter}
+use Rattle.page.specs.CheckBits.{plus, numeral}
 
 -- A bit as a number.
 abbrev pub bit : Bool → ℕ
@@ -22,31 +22,41 @@ bit-below : (b : Bool) → bit b < 2
 bit-below true = omega arith
 bit-below false = omega arith
 
-first : (b : Bool) (p : List Bool) → numeral (b ∷ p) ≡ numeralAfter (bit b) p
-first b p = ap (λ (x : ℕ). numeralAfter x p) (zero-add (bit b))
+-- The highest bit apart.
+pub highest : (b : Bool) (p : List Bool) → numeral (b ∷ p) ≡ bit b * 2 ^ length p + numeral p
+highest true p = ap (λ (x : ℕ). x + numeral p) (sym (one-mul (2 ^ length p)))
+highest false p = ap (λ (x : ℕ). x + numeral p) (sym (zero-mul (2 ^ length p)))
 
--- What stands before is doubled with each bit.
+pub below : (p : List Bool) → numeral p < 2 ^ length p
+below [] = omega arith
+below (true ∷ p) = let h = below p in let s = pow-suc 2 (length p) in omega arith
+below (false ∷ p) = let h = below p in let s = pow-suc 2 (length p) in omega arith
+
+-- The number of a list of bits after a number n that stands before them: what a register does with one bit after the other.
+abbrev pub numeralAfter : ℕ → List Bool → ℕ
+numeralAfter n [] = n
+numeralAfter n (b ∷ p) = numeralAfter (n * 2 + bit b) p
+
 pub after : (n : ℕ) (p : List Bool) → numeralAfter n p ≡ n * 2 ^ length p + numeral p
 after n [] = sym (add-zero (n * 1) ∙ mul-one n)
 after n (b ∷ p) =
     after (n * 2 + bit b) p
     ∙ ap (λ (x : ℕ). x + numeral p) (add-mul (n * 2) (bit b) (2 ^ length p))
     ∙ add-assoc (n * 2 * 2 ^ length p) (bit b * 2 ^ length p) (numeral p)
-    ∙ ap₂ _+_ (mul-assoc n 2 (2 ^ length p) ∙ ap (λ (x : ℕ). n * x) (mul-comm 2 (2 ^ length p) ∙ sym (pow-suc 2 (length p)))) (sym (first b p ∙ after (bit b) p))
+    ∙ ap₂ _+_ (mul-assoc n 2 (2 ^ length p) ∙ ap (λ (x : ℕ). n * x) (mul-comm 2 (2 ^ length p) ∙ sym (pow-suc 2 (length p)))) (sym (highest b p))
 
--- The highest bit apart.
-pub highest : (b : Bool) (p : List Bool) → numeral (b ∷ p) ≡ bit b * 2 ^ length p + numeral p
-highest b p = first b p ∙ after (bit b) p
+pub from-zero : (p : List Bool) → numeral p ≡ numeralAfter 0 p
+from-zero p = sym (after 0 p ∙ ap (λ (x : ℕ). x + numeral p) (zero-mul (2 ^ length p)) ∙ zero-add (numeral p))
 
-pub below : (p : List Bool) → numeral p < 2 ^ length p
-below [] = omega arith
-below (true ∷ p) = let e = highest true p in let h = below p in let s = pow-suc 2 (length p) in omega arith
-below (false ∷ p) = let e = highest false p in let h = below p in let s = pow-suc 2 (length p) in omega arith
-
--- Two lists, one behind the other.
-pub joined-after : (n : ℕ) (p q : List Bool) → numeralAfter n (p ++ q) ≡ numeralAfter (numeralAfter n p) q
-joined-after n [] q = refl
-joined-after n (b ∷ p) q = joined-after (n * 2 + bit b) p q
+-- A zero more at the end doubles.
+pub doubled : (p : List Bool) → numeral (p ++ (false ∷ [])) ≡ numeral p * 2
+doubled [] = refl
+doubled (b ∷ p) =
+    highest b (p ++ (false ∷ []))
+    ∙ ap₂ (λ (n x : ℕ). bit b * 2 ^ n + x) (length-append p (false ∷ []) ∙ add-one (length p)) (doubled p)
+    ∙ ap (λ (x : ℕ). x + numeral p * 2) (ap (λ (x : ℕ). bit b * x) (pow-suc 2 (length p)) ∙ sym (mul-assoc (bit b) (2 ^ length p) 2))
+    ∙ sym (add-mul (bit b * 2 ^ length p) (numeral p) 2)
+    ∙ ap (λ (x : ℕ). x * 2) (sym (highest b p))
 
 differ-bits : (a b : Bool) → differ (bit a) (bit b) ≡ bit (xor a b)
 unfolding xor
@@ -86,11 +96,7 @@ plus-after x y (a ∷ p) (b ∷ q) h =
     ap (λ (n : ℕ). numeralAfter n (plus p q)) (sym (xor-longer x y a b)) ∙ plus-after (x * 2 + bit a) (y * 2 + bit b) p q (cc h)
 
 pub numeral-plus : (p q : List Bool) → length p ≡ length q → numeral (plus p q) ≡ bitXor (numeral p) (numeral q)
-numeral-plus p q h = plus-after 0 0 p q h
-
-pub numeral-zeros : (n k : ℕ) → numeralAfter n (replicate k false) ≡ n * 2 ^ k
-numeral-zeros n zero = sym (mul-one n)
-numeral-zeros n (suc k) = ap (λ (x : ℕ). numeralAfter x (replicate k false)) (add-zero (n * 2)) ∙ numeral-zeros (n * 2) k ∙ mul-assoc n 2 (2 ^ k) ∙ ap (λ (x : ℕ). n * x) (mul-comm 2 (2 ^ k) ∙ sym (pow-suc 2 k))
+numeral-plus p q h = from-zero (plus p q) ∙ plus-after 0 0 p q h ∙ ap₂ bitXor (sym (from-zero p)) (sym (from-zero q))
 
 -- The lowest n bits of a number, highest first.
 abbrev pub digitsOf : ℕ → ℕ → List Bool
@@ -115,7 +121,7 @@ digits-after x (b ∷ p) =
     (digits-after (x * 2 + bit b) p)
 
 pub digits-numeral : (p : List Bool) → digitsOf (length p) (numeral p) ≡ p
-digits-numeral p = digits-after 0 p
+digits-numeral p = ap (digitsOf (length p)) (from-zero p) ∙ digits-after 0 p
 
 -- and a number that has no more digits is the number of its digits.
 numeral-after-digits : (n s x : ℕ) → numeralAfter x (digitsOf n s) ≡ x * 2 ^ n + s % 2 ^ n
@@ -129,7 +135,7 @@ numeral-after-digits (suc n) s x =
     (sym (mod-pow-add s 1 n) ∙ ap (λ (k : ℕ). s % 2 ^ k) (one-add n))
 
 pub numeral-digits : (n s : ℕ) → s < 2 ^ n → numeral (digitsOf n s) ≡ s
-numeral-digits n s h = numeral-after-digits n s 0 ∙ ap₂ _+_ (zero-mul (2 ^ n)) (mod-eq-of-lt h) ∙ zero-add s
+numeral-digits n s h = from-zero (digitsOf n s) ∙ numeral-after-digits n s 0 ∙ ap₂ _+_ (zero-mul (2 ^ n)) (mod-eq-of-lt h) ∙ zero-add s
 
 -- The digit at a place.
 pub digit-at : (n s j : ℕ) → j < n → getD (digitsOf n s) j false ≡ odd (s / 2 ^ (n - suc j))

@@ -10,10 +10,10 @@ use lib.ListN.{length, replicate, length-append}
 use lib.Bits.{bitXor}
 use lib.Pow.{shr-shr}
 use Rattle.page.specs.Word.{odd, bitsOf}
-use Rattle.page.specs.CheckBits.{plus, lower, generator, divided, remainder, numeral, numeralAfter, checkList, checkBits}
+use Rattle.page.specs.CheckBits.{plus, generator, divided, remainder, numeral, checkList, checkBits}
 use Rattle.page.proofs.Polynomials.{false-xor, plus-comm, plus-length}
-use Rattle.page.proofs.Remainders.{remainder-length, one-more}
-use Rattle.page.proofs.BinaryNumbers.{bit, odd-bit, highest, below, joined-after, numeral-plus, numeral-zeros}
+use Rattle.page.proofs.Remainders.{lower, remainder-length, one-more}
+use Rattle.page.proofs.BinaryNumbers.{bit, odd-bit, highest, below, doubled, numeral-plus}
 
 -- The first bits of a number, one more: it stands at the end.
 pub bits-more : (n w : ℕ) → bitsOf (suc n) w ≡ bitsOf n w ++ (odd (w / 2 ^ n) ∷ [])
@@ -36,13 +36,16 @@ pub entered : (r : List Bool) (d : Bool) → length r ≡ 16
 entered r d h =
     ap numeral (padded r (d ∷ replicate 16 false) (omega arith))
     ∙ numeral-plus (r ++ (false ∷ [])) (d ∷ replicate 16 false) (length-append r (false ∷ []) ∙ ap (λ (n : ℕ). n + 1) h)
-    ∙ ap₂ bitXor (joined-after 0 r (false ∷ []) ∙ add-zero (numeral r * 2))
-    (ap (λ (x : ℕ). numeralAfter x (replicate 16 false)) (zero-add (bit d)) ∙ numeral-zeros (bit d) 16)
+    ∙ ap₂ bitXor (doubled r) (top d)
+  where
+    top : (b : Bool) → numeral (b ∷ replicate 16 false) ≡ bit b * 65536
+    top true = refl
+    top false = refl
 
 -- One step of the division on seventeen coefficients: nothing is taken away below 2^16,
 pub step-low : (y : List Bool) → length y ≡ 17 → numeral y < 65536 → numeral (divided 1 y) ≡ numeral y
 step-low [] h l = refl
-step-low (false ∷ y) h l = refl
+step-low (false ∷ y) h l = sym (zero-add (numeral y))
 step-low (true ∷ y) h l = absurd (let n : length y ≡ 16 = omega arith in let e : numeral (true ∷ y) ≡ 1 * 2 ^ 16 + numeral y = highest true y ∙ ap (λ (k : ℕ). 1 * 2 ^ k + numeral y) n in omega arith)
 
 -- and the divisor from there on.
@@ -51,7 +54,7 @@ unfolding xor
 step-high [] h l = absurd (omega arith)
 step-high (false ∷ y) h l = absurd (let n : length y ≡ 16 = omega arith in let e : numeral (false ∷ y) ≡ 0 * 2 ^ 16 + numeral y = highest false y ∙ ap (λ (k : ℕ). 0 * 2 ^ k + numeral y) n in let b : numeral y < 2 ^ 16 = subst (λ (k : ℕ). numeral y < 2 ^ k) n (below y) in omega arith)
 step-high (true ∷ y) h l =
-    ap numeral (plus-comm lower y) ∙ numeral-plus (true ∷ y) generator h
+    ap numeral (plus-comm lower y) ∙ sym (zero-add (numeral (plus y lower))) ∙ numeral-plus (true ∷ y) generator h
 
 -- What holds whenever the loop's test is reached: i bits of the word have entered.
 pub record Going (word register rest i : ℕ) : Type 0 where
@@ -82,8 +85,8 @@ module _ (word register rest i : ℕ) (g : Going word register rest i) (h : i < 
   small : register < 65536
   small = rw (g .held) (subst (λ (n : ℕ). numeral (remainder (bitsOf i word)) < 2 ^ n) (remainder-length (bitsOf i word)) (below (remainder (bitsOf i word))))
 
-  doubled : register * 2 ^ 1 % 2 ^ 32 ≡ register * 2
-  doubled = let s = small in omega arith
+  register-doubled : register * 2 ^ 1 % 2 ^ 32 ≡ register * 2
+  register-doubled = let s = small in omega arith
 
   raised : rest % 2 * 2 ^ 16 % 2 ^ 32 ≡ rest % 2 * 65536
   raised = omega arith
@@ -91,7 +94,7 @@ module _ (word register rest i : ℕ) (g : Going word register rest i) (h : i < 
   is-shifted : shifted register rest ≡ numeral seventeen
   unfolding seventeen
   is-shifted =
-      ap₂ bitXor doubled raised
+      ap₂ bitXor register-doubled raised
       ∙ ap₂ (λ (a b : ℕ). bitXor (a * 2) (b * 65536)) (g .held) (sym (odd-bit rest) ∙ ap (λ (x : ℕ). bit (odd x)) (g .left))
       ∙ sym (entered (remainder (bitsOf i word)) (odd (word / 2 ^ i)) (remainder-length (bitsOf i word)))
 

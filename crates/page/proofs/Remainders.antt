@@ -6,14 +6,17 @@ use mathlib.Core.List.{List, [], _∷_, _++_, append-assoc}
 use Prim.Native.Nat.{ℕ, zero, suc, _+_, _≤_, _<_}
 use native.Mathlib.Nat.{zero-add, suc-add}
 use native.Mathlib.Omega.{arith}
-use lib.ListN.{length, replicate, length-append, length-replicate}
-use Rattle.page.specs.CheckBits.{plus, lower, divided, remainder}
+use lib.ListN.{length, replicate, drop, length-append, length-replicate}
+use Rattle.page.specs.CheckBits.{plus, generator, divided, remainder}
 use Rattle.page.proofs.Polynomials.{xor-false, plus-comm, plus-assoc, plus-twice, plus-length, zeros-plus, plus-zeros, plus-parts, plus-self}
 
 abbrev zeros : ℕ → List Bool
 zeros n = replicate n false
 
--- A coefficient times the divisor without its highest power.
+-- The divisor without its highest power, and a coefficient times that.
+abbrev pub lower : List Bool
+lower = drop 1 generator
+
 abbrev pub scaled : Bool → List Bool
 scaled true = lower
 scaled false = []

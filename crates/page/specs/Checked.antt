@@ -1,10 +1,10 @@
--- The check call. 01, "Refusal numbers": "13 Wide: word 2^48 or more".
-use Prim.Native.Nat.{ℕ, _^_}
+-- The check call. 01, "Refusal numbers", row 13, Wide.
+use Prim.Native.Nat.{ℕ}
 use mathlib.Core.Bool.{cond}
-use lib.Dec.{ltb}
 use Rattle.refusal.specs.Answers.{Said, refused, number}
+use Rattle.page.specs.Word.{isWord}
 use Rattle.page.specs.CheckBits.{checkBits}
 
--- Wide, else the check bits.
+-- The check bits of a word; Wide if it is none.
 abbrev pub checked : ℕ → Said
-checked w = cond (ltb w (2 ^ 48)) (number (checkBits w)) (refused 13)
+checked w = cond (isWord w) (number (checkBits w)) (refused 13)

@@ -1,14 +1,18 @@
 -- 01, "The page": "A word is D0 + 2·D1 + ... + 2^47·D47."
-use Prim.Native.Nat.{ℕ, zero, suc, _/_, _%_}
+use Prim.Native.Nat.{ℕ, zero, suc, _/_, _%_, _^_}
 use mathlib.Core.Bool.{Bool}
 use mathlib.Core.List.{List, [], _∷_}
-use lib.Dec.{eqb}
+use lib.Dec.{eqb, ltb}
 
 -- Whether the lowest bit is one.
 abbrev pub odd : ℕ → Bool
 odd n = eqb (n % 2) 1
 
--- The first n bits of a number, lowest first: D0, D1, ...
+-- The first n bits of a number, lowest first: D0, D1, ... Bits further up are not looked at.
 abbrev pub bitsOf : ℕ → ℕ → List Bool
 bitsOf zero w = []
 bitsOf (suc n) w = odd w ∷ bitsOf n (w / 2)
+
+-- Whether a number is a word at all. Row 13 of the refusals, Wide, is the contrary: "word 2^48 or more".
+abbrev pub isWord : ℕ → Bool
+isWord w = ltb w (2 ^ 48)

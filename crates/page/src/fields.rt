@@ -1,20 +1,33 @@
 // The fields of a word, by name. Every 64-bit number is taken: bits above D47 are neither looked at nor changed.
 ghost use mathlib.Core.Path.{_≡_};
 ghost use Prim.Native.Nat.{_+_, _≤_};
-ghost use Rattle.page.specs.Fields.{field, withField, selectorOf, echoedNonceOf, pauseOf, forcedRoleOf, remoteFaultOf, ackOf, nextPageOf, nonceOf, abilitiesOf, withSelector, withEchoedNonce, withAck, withNextPage, withNonce};
+ghost use Rattle.page.specs.Fields.{part, withPart, fieldOf, withField};
 
-// The field of `bits` bits that starts at bit `low`.
-fn field(word: u64, low: u32, bits: u32) -> u64
+// The fields, from D0 on.
+pub enum Field {
+    Selector,
+    EchoedNonce,
+    Pause,
+    ForcedRole,
+    RemoteFault,
+    Ack,
+    NextPage,
+    Nonce,
+    Abilities,
+}
+
+// The part of `bits` bits that starts at bit `low`.
+fn part(word: u64, low: u32, bits: u32) -> u64
     requires { ⌜ low + bits ≤ 48 ⌝ }
-    ensures { λ r. ⌜ r ≡ field low bits word ⌝ }
+    ensures { λ r. ⌜ r ≡ part low bits word ⌝ }
 {
     (word >> low) % (1u64 << bits)
 }
 
-// The word with that field replaced; a value too large for it loses its upper bits.
-fn with_field(word: u64, value: u64, low: u32, bits: u32) -> u64
+// The word with that part replaced; a value too large for it loses its upper bits.
+fn with_part(word: u64, value: u64, low: u32, bits: u32) -> u64
     requires { ⌜ low + bits ≤ 48 ⌝ }
-    ensures { λ r. ⌜ r ≡ withField low bits value word ⌝ }
+    ensures { λ r. ⌜ r ≡ withPart low bits value word ⌝ }
 {
     let above = low + bits;
     let kept = (word >> above) << above;
@@ -22,95 +35,36 @@ fn with_field(word: u64, value: u64, low: u32, bits: u32) -> u64
     kept + (placed + word % (1u64 << low))
 }
 
-// S, D0-4.
-pub fn selector(word: u64) -> u64
-    ensures { λ r. ⌜ r ≡ selectorOf word ⌝ }
+// The value of a field.
+pub fn get(word: u64, field: Field) -> u64
+    ensures { λ r. ⌜ r ≡ fieldOf field word ⌝ }
 {
-    field(word, 0, 5)
+    match field {
+        Field::Selector => part(word, 0, 5),
+        Field::EchoedNonce => part(word, 5, 5),
+        Field::Pause => part(word, 10, 2),
+        Field::ForcedRole => part(word, 12, 1),
+        Field::RemoteFault => part(word, 13, 1),
+        Field::Ack => part(word, 14, 1),
+        Field::NextPage => part(word, 15, 1),
+        Field::Nonce => part(word, 16, 5),
+        Field::Abilities => part(word, 21, 27),
+    }
 }
 
-// E, D5-9.
-pub fn echoed_nonce(word: u64) -> u64
-    ensures { λ r. ⌜ r ≡ echoedNonceOf word ⌝ }
+// The word with a field set to a value modulo the field's size.
+pub fn set(word: u64, field: Field, value: u64) -> u64
+    ensures { λ r. ⌜ r ≡ withField field value word ⌝ }
 {
-    field(word, 5, 5)
-}
-
-// Pause, D10-11.
-pub fn pause(word: u64) -> u64
-    ensures { λ r. ⌜ r ≡ pauseOf word ⌝ }
-{
-    field(word, 10, 2)
-}
-
-// M/S, D12: 1 if the role is forced.
-pub fn forced_role(word: u64) -> u64
-    ensures { λ r. ⌜ r ≡ forcedRoleOf word ⌝ }
-{
-    field(word, 12, 1)
-}
-
-// Remote fault, D13.
-pub fn remote_fault(word: u64) -> u64
-    ensures { λ r. ⌜ r ≡ remoteFaultOf word ⌝ }
-{
-    field(word, 13, 1)
-}
-
-// Ack, D14.
-pub fn ack(word: u64) -> u64
-    ensures { λ r. ⌜ r ≡ ackOf word ⌝ }
-{
-    field(word, 14, 1)
-}
-
-// NP, D15.
-pub fn next_page(word: u64) -> u64
-    ensures { λ r. ⌜ r ≡ nextPageOf word ⌝ }
-{
-    field(word, 15, 1)
-}
-
-// T, D16-20.
-pub fn nonce(word: u64) -> u64
-    ensures { λ r. ⌜ r ≡ nonceOf word ⌝ }
-{
-    field(word, 16, 5)
-}
-
-// A0-A26, D21-47.
-pub fn abilities(word: u64) -> u64
-    ensures { λ r. ⌜ r ≡ abilitiesOf word ⌝ }
-{
-    field(word, 21, 27)
-}
-
-pub fn with_selector(word: u64, value: u64) -> u64
-    ensures { λ r. ⌜ r ≡ withSelector value word ⌝ }
-{
-    with_field(word, value, 0, 5)
-}
-
-pub fn with_echoed_nonce(word: u64, value: u64) -> u64
-    ensures { λ r. ⌜ r ≡ withEchoedNonce value word ⌝ }
-{
-    with_field(word, value, 5, 5)
-}
-
-pub fn with_ack(word: u64, value: u64) -> u64
-    ensures { λ r. ⌜ r ≡ withAck value word ⌝ }
-{
-    with_field(word, value, 14, 1)
-}
-
-pub fn with_next_page(word: u64, value: u64) -> u64
-    ensures { λ r. ⌜ r ≡ withNextPage value word ⌝ }
-{
-    with_field(word, value, 15, 1)
-}
-
-pub fn with_nonce(word: u64, value: u64) -> u64
-    ensures { λ r. ⌜ r ≡ withNonce value word ⌝ }
-{
-    with_field(word, value, 16, 5)
+    match field {
+        Field::Selector => with_part(word, value, 0, 5),
+        Field::EchoedNonce => with_part(word, value, 5, 5),
+        Field::Pause => with_part(word, value, 10, 2),
+        Field::ForcedRole => with_part(word, value, 12, 1),
+        Field::RemoteFault => with_part(word, value, 13, 1),
+        Field::Ack => with_part(word, value, 14, 1),
+        Field::NextPage => with_part(word, value, 15, 1),
+        Field::Nonce => with_part(word, value, 16, 5),
+        Field::Abilities => with_part(word, value, 21, 27),
+    }
 }

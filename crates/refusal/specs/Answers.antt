@@ -1,4 +1,4 @@
--- What is said to the caller: 01's number and values for each case of an answer.
+-- What is said to the caller, for each case of an answer.
 -- 01, "Language forms in the code": "Whenever an answer is an enum, a definition gives this paper's number and values for each of the enum's cases. The promises use that definition."
 use Prim.Native.Nat.{ℕ, _+_, _*_, _%_, _^_}
 use mathlib.Core.Bool.{Bool, cond}
@@ -6,8 +6,8 @@ use Rattle.refusal.specs.declared.Answer.{Answer}
 use Rattle.refusal.specs.declared.Answer.the-variants.{Nothing, Refused, Page, Order, Settled, Value, Number, Quiet, Unfit}
 use Rattle.refusal.specs.Numbers.{numberOf}
 
--- The kind is the refusal's number, 0 for nothing, or one of the numbers from 128 on below. The value is what the
--- answer carries, 0 if it carries nothing.
+-- The kind is a refusal's number in 01's table, 0 for nothing, or, of an answer that is no refusal, one of the numbers from
+-- 0x80 on that the fixed interfaces give it. The value is what the answer carries, 0 if it carries nothing.
 pub record Said : Type 0 where
   pub kind : ℕ
   pub value : ℕ
@@ -18,37 +18,37 @@ saying kind value = record { kind = kind; value = value }
 abbrev pub nothing : Said
 nothing = saying 0 0
 
--- "A refusal carries one number from 01's table."
+-- A refusal carries one number from 01's table, and nothing else.
 abbrev pub refused : ℕ → Said
-refused number = saying number 0
+refused n = saying n 0
 
 -- A good page was read: its word.
 abbrev pub pageRead : ℕ → Said
-pageRead word = saying 128 word
+pageRead word = saying 0x80 word
 
 -- A page is ordered: its word.
 abbrev pub pageOrdered : ℕ → Said
-pageOrdered word = saying 129 word
+pageOrdered word = saying 0x81 word
 
 -- Rate and role are settled: the number n of the ability An below 256, and 256 more if the own side is master.
 abbrev pub settledOn : ℕ → Bool → Said
-settledOn ability master = saying 130 (cond master (ability + 256) ability)
+settledOn ability master = saying 0x82 (cond master (ability + 256) ability)
 
 -- A register's value.
 abbrev pub registerValue : ℕ → Said
-registerValue value = saying 131 value
+registerValue value = saying 0x83 value
 
 -- A number: check bits, a count of readings, the positions of a gap.
 abbrev pub number : ℕ → Said
-number n = saying 132 n
+number n = saying 0x84 n
 
 -- The gap is quiet.
-abbrev pub quiet : Said
-quiet = saying 133 0
+abbrev pub gapQuiet : Said
+gapQuiet = saying 0x85 0
 
 -- The gap is unfit.
-abbrev pub unfit : Said
-unfit = saying 134 0
+abbrev pub gapUnfit : Said
+gapUnfit = saying 0x86 0
 
 -- What each answer says.
 abbrev pub said : Answer → Said
@@ -59,9 +59,10 @@ said (Order word) = pageOrdered word
 said (Settled ability master) = settledOn ability master
 said (Value value) = registerValue value
 said (Number n) = number n
-said Quiet = quiet
-said Unfit = unfit
+said Quiet = gapQuiet
+said Unfit = gapUnfit
 
--- The same as one number of 64 bits: the kind in the top byte, the value in the 56 bits below it.
+-- The same as one number of 64 bits, the kind in the top byte and the value in the 56 bits below it; a value of 2^56 or more,
+-- which no call answers, loses its upper bits.
 abbrev pub packed : Said → ℕ
 packed s = s .kind * 2 ^ 56 + s .value % 2 ^ 56

@@ -1,9 +1,9 @@
--- 01, "Refusal numbers": each refusal's number.
+-- 01, "Refusal numbers": the table's two first columns.
 use Prim.Native.Nat.{ℕ}
 use Rattle.refusal.specs.declared.Refusal.{Refusal}
 use Rattle.refusal.specs.declared.Refusal.the-variants.{Gap, Cut, Check, Selector, Tie, Changed, Echo, None, Roles, Register, Turn, Room, Wide, Mode, Odd}
 
--- "1, 2, 3 Gap, Cut, Check; 4 Selector; 5, 6, 7 Tie, Changed, Echo; 8, 9 None, Roles; 10 Register; 11 Turn; 12 Room; 13 Wide; 14 Mode; 15 Odd"
+-- Each refusal's number.
 abbrev pub numberOf : Refusal → ℕ
 numberOf Gap = 1
 numberOf Cut = 2

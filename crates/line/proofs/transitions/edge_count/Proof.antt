@@ -19,12 +19,12 @@ add-result-2 c = omega (arith, ones-le 64 (c .before .args .word) (search needs)
 
 returns : tie.Need-returns
 returns c =
-    ap₂ (λ (check : ℕ) (low : Bool). ones (c .before .args .word) + ones check + cond low 86 81) (c .before .pre .1) (sym (c .if1 .taken))
+    ap₂ (λ (check : ℕ) (slow : Bool). ones (c .before .args .word) + ones check + cond slow 86 81) (c .before .pre .1) (sym (c .if1 .taken))
     ∙ sym (edge-count _ _ (c .before .pre .0))
 
 returns-2 : tie.Need-returns-2
 returns-2 c =
-    ap₂ (λ (check : ℕ) (low : Bool). ones (c .before .args .word) + ones check + cond low 86 81) (c .before .pre .1) (sym (c .if1 .left))
+    ap₂ (λ (check : ℕ) (slow : Bool). ones (c .before .args .word) + ones check + cond slow 86 81) (c .before .pre .1) (sym (c .if1 .left))
     ∙ sym (edge-count _ _ (c .before .pre .0))
 
 pub edge-count-spec : {M : Type 1} → statement M

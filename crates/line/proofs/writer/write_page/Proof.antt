@@ -5,17 +5,17 @@ use Prim.Native.Nat.{ℕ, _-_}
 use native.Mathlib.Omega.{arith}
 use borrow.Author.Needs.{needs}
 use lib.ListN.{length}
-use Rattle.line.specs.Transitions.{edges, transitions}
+use Rattle.line.specs.Transitions.{edgeCount, transitions}
 use Rattle.line.proofs.WritingLoop.{Writing, start, room, same-long, turn-yes, turn-no, finish}
 use Rattle.line.proofs.writer.write_page.Statement.{statement}
 use Rattle.line.proofs.writer.write_page.Tie as tie
 
 abbrev Inv-loop : tie.InvT-loop
-Inv-loop tail₀ word check first low spacing clock₀ count₀ passed₀ tail clock count passed =
-    Writing low spacing word first tail₀ tail clock count passed
+Inv-loop tail₀ word check first slow spacing clock₀ count₀ passed₀ tail clock count passed =
+    Writing slow spacing word first tail₀ tail clock count passed
 
 abbrev μ-loop : tie.MeasureT-loop
-μ-loop tail₀ word check first low spacing clock₀ count₀ passed₀ tail clock count passed = 157 - passed
+μ-loop tail₀ word check first slow spacing clock₀ count₀ passed₀ tail clock count passed = 157 - passed
 
 loop-holds : tie.Need-loop-holds Inv-loop μ-loop
 loop-holds c = start _ _ _ _ _ (search needs)
@@ -27,18 +27,18 @@ transition-at-requires : tie.Need-transition-at-requires Inv-loop μ-loop
 transition-at-requires c κs = (c .before .before .before .pre .0, omega arith)
 
 mul-tail : tie.Need-mul-tail Inv-loop μ-loop
-unfolding edges transitions
+unfolding edgeCount transitions
 mul-tail c =
     let r = room _ _ _ _ _ _ _ _ _ (c .before .before .before .loop .inv) (c .before .before .loop-test .taken) (sym (c .before .transition-at .ensures) ∙ c .if1 .taken) (c .before .before .before .before .before .pre .1) in search needs
 
 slice-write-tail : tie.Need-slice-write-tail Inv-loop μ-loop
-unfolding edges transitions
+unfolding edgeCount transitions
 slice-write-tail c =
     let r = room _ _ _ _ _ _ _ _ _ (c .before .before .before .loop .inv) (c .before .before .loop-test .taken) (sym (c .before .transition-at .ensures) ∙ c .if1 .taken) (c .before .before .before .before .before .pre .1) in
     let s = same-long _ _ _ _ _ _ _ _ _ (c .before .before .before .loop .inv) (c .before .before .before .before .before .pre .1) in omega arith
 
 add-count : tie.Need-add-count Inv-loop μ-loop
-unfolding edges transitions
+unfolding edgeCount transitions
 add-count c =
     let r = room _ _ _ _ _ _ _ _ _ (c .before .before .before .loop .inv) (c .before .before .loop-test .taken) (sym (c .before .transition-at .ensures) ∙ c .if1 .taken) (c .before .before .before .before .before .pre .1) in search needs
 
@@ -49,7 +49,7 @@ loop-less : tie.Need-loop-less Inv-loop μ-loop
 loop-less c = omega arith
 
 loop-again : tie.Need-loop-again Inv-loop μ-loop
-unfolding edges transitions
+unfolding edgeCount transitions
 loop-again c =
     rw (c .wrapping-add-u32 .ensures)
     (⊎-elim
@@ -63,7 +63,7 @@ loop-again c =
     (c .before .if1 .came))
 
 same-length : tie.Need-same-length Inv-loop μ-loop
-unfolding edges transitions
+unfolding edgeCount transitions
 same-length c = same-long _ _ _ _ _ _ _ _ _ (c .before .loop .inv) (c .before .before .before .pre .1)
 
 returns : tie.Need-returns Inv-loop μ-loop

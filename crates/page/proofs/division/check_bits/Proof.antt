@@ -28,8 +28,8 @@ loop-less c = omega arith
 loop-again : tie.Need-loop-again Inv-loop μ-loop
 loop-again c =
     ⊎-elim
-    (λ v. rw (v .1) (turn-low _ _ _ _ (c .before .before .loop .inv) (c .before .loop-test .taken) (v .0 .taken)))
-    (λ v. rw (v .1) (turn-high _ _ _ _ (c .before .before .loop .inv) (c .before .loop-test .taken) (v .0 .left)))
+    (λ v. rw (v .1) (turn-low _ _ _ _ (c .before .before .loop .inv) (omega arith) (v .0 .taken)))
+    (λ v. rw (v .1) (turn-high _ _ _ _ (c .before .before .loop .inv) (omega arith) (v .0 .left)))
     (c .if1 .came)
 
 returns : tie.Need-returns Inv-loop μ-loop

@@ -2,10 +2,10 @@ use borrow.Author.Needs.{needs}
 use native.Mathlib.Omega.{arith}
 use lib.Pow.{pow-pos}
 use Prim.Native.Nat.{_+_}
-use Rattle.page.specs.Fields.{withField}
+use Rattle.page.specs.Fields.{withPart}
 use Rattle.page.proofs.FieldLaws.{one-shifted, kept-shifted, placed-shifted, placed-fits, stays-below}
-use Rattle.page.proofs.fields.with_field.Statement.{statement}
-use Rattle.page.proofs.fields.with_field.Tie as tie
+use Rattle.page.proofs.fields.with_part.Statement.{statement}
+use Rattle.page.proofs.fields.with_part.Tie as tie
 
 add-above : tie.Need-add-above
 add-above c = search needs
@@ -43,7 +43,7 @@ add-result c =
     (record { fits = placed-fits (c .args .low) (c .args .bits) (c .args .value) (c .args .word) (omega arith) })
 
 add-result-2 : tie.Need-add-result-2
-unfolding withField
+unfolding withPart
 add-result-2 c =
     rw (
       kept-shifted (c .args .low + c .args .bits) (c .args .word) (search needs),
@@ -52,15 +52,15 @@ add-result-2 c =
     (record { fits = stays-below 64 (c .args .low) (c .args .bits) (c .args .value) (c .args .word) (omega arith) (search needs) })
 
 returns : tie.Need-returns
-unfolding withField
+unfolding withPart
 returns c =
     rw (
       kept-shifted (c .args .low + c .args .bits) (c .args .word) (search needs),
       placed-shifted (c .args .low) (c .args .bits) (c .args .value) (c .args .word) (omega arith),
     )
 
-pub with-field-spec : {M : Type 1} → statement M
-with-field-spec =
+pub with-part-spec : {M : Type 1} → statement M
+with-part-spec =
     tie.close
     (tie.spec
     add-above

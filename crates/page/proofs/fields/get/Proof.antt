@@ -1,0 +1,18 @@
+use borrow.Author.Needs.{needs}
+use Rattle.page.proofs.fields.get.Statement.{statement}
+use Rattle.page.proofs.fields.get.Tie as tie
+
+pub get-spec : {M : Type 1} → statement M
+get-spec =
+    tie.close
+    (tie.spec
+    (λ c. search needs) (λ c κs. search needs) (λ c. search needs) (λ c κs. search needs) (λ c. search needs) (λ c κs. search needs) (λ c. search needs) (λ c κs. search needs) (λ c. search needs) (λ c κs. search needs) (λ c. search needs) (λ c κs. search needs) (λ c. search needs) (λ c κs. search needs) (λ c. search needs) (λ c κs. search needs) (λ c. search needs) (λ c κs. search needs)
+    (λ c. simp (← c .part .ensures, c .before .enum-told .given .1))
+    (λ c. simp (← c .part2 .ensures, c .before .enum-told2 .given .1))
+    (λ c. simp (← c .part3 .ensures, c .before .enum-told3 .given .1))
+    (λ c. simp (← c .part4 .ensures, c .before .enum-told4 .given .1))
+    (λ c. simp (← c .part5 .ensures, c .before .enum-told5 .given .1))
+    (λ c. simp (← c .part6 .ensures, c .before .enum-told6 .given .1))
+    (λ c. simp (← c .part7 .ensures, c .before .enum-told7 .given .1))
+    (λ c. simp (← c .part8 .ensures, c .before .enum-told8 .given .1))
+    (λ c. simp (← c .part9 .ensures, c .before .enum-told9 .given .1)))
