@@ -4,6 +4,7 @@ use compare::agreement::{assert_agreement, assert_answers};
 use compare::call::Call;
 use compare::cells::{to_bytes, whole_cells};
 use compare::drive;
+use compare::generate::WRONG_MODES;
 use reference::answer::{number, MODE, QUIET, ROOM, UNFIT, WIDE};
 
 const HSM: u64 = 0;
@@ -115,25 +116,13 @@ fn the_readings_after_a_roll_over_are_small_numbers() {
 
 #[test]
 fn only_0_and_1_are_modes() {
-    let wrong = [
-        2,
-        3,
-        255,
-        256,
-        257,
-        TWO_TO_32 - 1,
-        TWO_TO_32,
-        TWO_TO_32 + 1,
-        1 << 63,
-        u64::MAX,
-    ];
     let mut calls = vec![
         (Call::judge(HSM, 30), number(1)),
         (Call::judge(LSM, 800), number(1)),
         (Call::write(HSM, 0, 0, 0, &list(90)), number(81)),
         (Call::write(LSM, 0, 0, 0, &list(90)), number(86)),
     ];
-    for mode in wrong {
+    for mode in WRONG_MODES {
         calls.push((Call::judge(mode, 30), MODE));
         calls.push((Call::judge(mode, 800), MODE));
         calls.push((Call::write(mode, 0, 0, 0, &list(90)), MODE));

@@ -34,34 +34,34 @@ fn assert_output(cells: &[u64], expected: &[u64]) {
     assert!(model::output(&input) == Ok(output), "the model differs");
 }
 
-#[test]
-fn unknown_operations_answer_no_cells() {
+/// Sends calls that have no answer, each with a known call behind it that has one.
+fn assert_no_cells(unanswered: impl IntoIterator<Item = Call>) {
     let mut calls = Vec::new();
     let mut expected = Vec::new();
-    for operation in [0, 8, 99, u64::MAX] {
-        for arguments in [0, 1, 7, 500] {
-            calls.push(Call::new(operation, &vec![1; arguments]));
-            calls.push(known_check());
-            expected.push(0);
-            expected.extend(KNOWN_ANSWER);
-        }
+    for call in unanswered {
+        calls.extend([call, known_check()]);
+        expected.push(0);
+        expected.extend(KNOWN_ANSWER);
     }
     assert_output(&all_cells(&calls), &expected);
 }
 
 #[test]
+fn unknown_operations_answer_no_cells() {
+    let with_arguments =
+        |operation| [0, 1, 7, 500].map(|count| Call::new(operation, &vec![1; count]));
+    assert_no_cells([0, 8, 99, u64::MAX].into_iter().flat_map(with_arguments));
+}
+
+#[test]
 fn known_operations_with_too_few_arguments_answer_no_cells() {
-    let mut calls = Vec::new();
-    let mut expected = Vec::new();
-    for (operation, needed) in [(CHECK, 1), (JUDGE, 2), (WRITE, 4)] {
-        for arguments in 0..needed {
-            calls.push(Call::new(operation, &vec![1; arguments]));
-            calls.push(known_check());
-            expected.push(0);
-            expected.extend(KNOWN_ANSWER);
-        }
-    }
-    assert_output(&all_cells(&calls), &expected);
+    let too_few =
+        |(operation, needed)| (0..needed).map(move |count| Call::new(operation, &vec![1; count]));
+    assert_no_cells(
+        [(CHECK, 1), (JUDGE, 2), (WRITE, 4)]
+            .into_iter()
+            .flat_map(too_few),
+    );
 }
 
 #[test]
