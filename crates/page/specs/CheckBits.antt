@@ -4,6 +4,7 @@
 use Prim.Native.Nat.{ℕ, zero, suc, _+_, _^_}
 use mathlib.Core.Bool.{Bool, true, false, cond, xor}
 use mathlib.Core.List.{List, [], _∷_, _++_}
+use lib.Dec.{eqb}
 use lib.ListN.{length, replicate, drop}
 use Rattle.page.specs.Word.{bitsOf}
 
@@ -43,3 +44,7 @@ checkList w = remainder (bitsOf 48 w)
 -- The check bits as a number, S15 its highest bit.
 unfoldable pub checkBits : ℕ → ℕ
 checkBits w = numeral (checkList w)
+
+-- Whether 64 bits, the first that came the lowest, are a word and its check bits: "good if the check bits agree".
+unfoldable pub agrees : ℕ → Bool
+agrees bits = eqb (numeral (drop 48 (bitsOf 64 bits))) (checkBits bits)
