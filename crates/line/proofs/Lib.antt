@@ -6,3 +6,4 @@ pub mod WrittenList
 pub mod LineExamples
 pub mod Windows
 pub mod ReadExamples
+pub mod PatternLaws

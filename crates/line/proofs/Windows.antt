@@ -5,6 +5,7 @@ use Prim.Native.Nat.{ℕ, _+_, _*_, _<_, _≤_}
 use native.Mathlib.Omega.{arith}
 use lib.Dec.{leb}
 use borrow.Author.Tests.{le-leb, lt-leb}
+use Rattle.page.proofs.ComputedTest.{and-false}
 use Rattle.line.specs.declared.modes.LineMode.{LineMode}
 use Rattle.line.specs.declared.modes.Judgement.the-variants.{Positions, Quiet, Unfit}
 use Rattle.line.specs.Modes.{hsmMode, lsmMode}
@@ -25,10 +26,6 @@ lsm-apart = record { narrow = omega arith; above = omega arith }
 pub record Near (m : LineMode) (k gap : ℕ) : Type 0 where
   pub least : k * m .spacing ≤ gap + m .tolerance
   pub most : gap ≤ k * m .spacing + m .tolerance
-
-and-false : (b : Bool) → (b && false) ≡ false
-and-false true = refl
-and-false false = refl
 
 inside : (m : LineMode) (k gap : ℕ) → Near m k gap → within m k gap ≡ true
 inside m k gap h = rw (le-leb (k * m .spacing) (gap + m .tolerance) (h .least), le-leb gap (k * m .spacing + m .tolerance) (h .most))

@@ -1,14 +1,16 @@
 -- 01, "The line": "Reading goes edge by edge."
 use Prim.Native.Nat.{ℕ, _+_, _/_, _%_, _^_}
+use mathlib.Core.Path.{_≡_}
 use mathlib.Core.Bool.{Bool, cond}
 use lib.Dec.{eqb}
-use Rattle.refusal.specs.Answers.{Said, nothing, refused, pageRead}
+use Rattle.refusal.specs.Answers.{Said, said, nothing, refused, pageRead}
 use Rattle.page.specs.CheckBits.{agrees}
 use Rattle.line.specs.declared.modes.LineMode.{LineMode}
 use Rattle.line.specs.declared.modes.Judgement.{Judgement}
 use Rattle.line.specs.declared.modes.Judgement.the-variants.{Positions, Quiet, Unfit}
 use Rattle.line.specs.declared.reader.Reader.{Reader}
 use Rattle.line.specs.declared.reader.Reader.the-variants.{Fresh, Open, Dropping}
+use Rattle.line.specs.declared.reader.Step.{Step}
 use Rattle.line.specs.Clock.{timeBetween}
 use Rattle.line.specs.Gaps.{judgementOf}
 use Rattle.line.specs.Pattern.{isClock, asks}
@@ -17,6 +19,11 @@ use Rattle.line.specs.Pattern.{isClock, asks}
 pub record Brings : Type 0 where
   pub says : Said
   pub reader : Reader
+
+-- That a step of the code gives just this.
+pub record Gives (r : Step) (b : Brings) : Type 0 where
+  pub answer : said (r .answer) ≡ b .says
+  pub reader : r .reader ≡ b .reader
 
 abbrev pub bring : Said → Reader → Brings
 bring says reader = record { says = says; reader = reader }

@@ -1,6 +1,7 @@
 // The line: clock and gaps, the two modes, a page's transitions, writing a page.
 mod clock;
 mod modes;
+mod pattern;
 mod reader;
 mod transitions;
 mod writer;

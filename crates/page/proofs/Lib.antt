@@ -6,3 +6,4 @@ pub mod BinaryNumbers
 pub mod WordBits
 pub mod Register
 pub mod CheckTheorem
+pub mod Agreement

@@ -10,7 +10,7 @@ use lib.ListN.{length, replicate, length-append}
 use lib.Bits.{bitXor}
 use lib.Pow.{shr-shr}
 use Rattle.page.specs.Word.{odd, bitsOf}
-use Rattle.page.specs.CheckBits.{plus, generator, divided, remainder, numeral, checkList, checkBits}
+use Rattle.page.specs.CheckBits.{plus, generator, divided, remainder, numeral}
 use Rattle.page.proofs.Polynomials.{false-xor, plus-comm, plus-length}
 use Rattle.page.proofs.Remainders.{lower, remainder-length, one-more}
 use Rattle.page.proofs.BinaryNumbers.{bit, odd-bit, highest, below, doubled, numeral-plus}
@@ -57,20 +57,20 @@ step-high (true ∷ y) h l =
     ap numeral (plus-comm lower y) ∙ sym (zero-add (numeral (plus y lower))) ∙ numeral-plus (true ∷ y) generator h
 
 -- What holds whenever the loop's test is reached: i bits of the word have entered.
-pub record Going (word register rest i : ℕ) : Type 0 where
-  pub most : i ≤ 48
+pub record Going (count word register rest i : ℕ) : Type 0 where
+  pub most : i ≤ count
   pub left : rest ≡ word / 2 ^ i
   pub held : register ≡ numeral (remainder (bitsOf i word))
 
-pub start : (word : ℕ) → Going word 0 word 0
+pub start : (count word : ℕ) → Going count word 0 word 0
 unfolding remainder
-start word = record { most = omega arith; left = sym (div-one word); held = refl }
+start count word = record { most = omega arith; left = sym (div-one word); held = refl }
 
 -- The register with one more bit of the word, before the divisor is taken away.
 abbrev shifted : ℕ → ℕ → ℕ
 shifted register rest = bitXor (register * 2 ^ 1 % 2 ^ 32) (rest % 2 * 2 ^ 16 % 2 ^ 32)
 
-module _ (word register rest i : ℕ) (g : Going word register rest i) (h : i < 48) where
+module _ (count word register rest i : ℕ) (g : Going count word register rest i) (h : i < count) where
   halved : rest / 2 ≡ word / 2 ^ (i + 1)
   halved = ap (λ (x : ℕ). x / 2) (g .left) ∙ shr-shr word i 1
 
@@ -104,21 +104,20 @@ module _ (word register rest i : ℕ) (g : Going word register rest i) (h : i < 
       sym (one-more (bitsOf i word) (odd (word / 2 ^ i)))
       ∙ ap remainder (sym (bits-more i word) ∙ ap (λ (n : ℕ). bitsOf n word) (sym (add-one i)))
 
-  turn : (next : ℕ) → numeral (divided 1 seventeen) ≡ next → Going word next (rest / 2) (i + 1)
+  turn : (next : ℕ) → numeral (divided 1 seventeen) ≡ next → Going count word next (rest / 2) (i + 1)
   turn next e = record { most = omega arith; left = halved; held = sym e ∙ ap numeral stepped }
 
   -- A turn that takes nothing away,
-  pub turn-low : shifted register rest < 65536 → Going word (shifted register rest) (rest / 2) (i + 1)
+  pub turn-low : shifted register rest < 65536 → Going count word (shifted register rest) (rest / 2) (i + 1)
   turn-low l = turn (shifted register rest) (step-low seventeen seventeen-long (rw is-shifted at l) ∙ sym is-shifted)
 
   -- and one that takes the divisor away.
-  pub turn-high : 65536 ≤ shifted register rest → Going word (bitXor (shifted register rest) 98309) (rest / 2) (i + 1)
+  pub turn-high : 65536 ≤ shifted register rest → Going count word (bitXor (shifted register rest) 98309) (rest / 2) (i + 1)
   turn-high l =
       turn (bitXor (shifted register rest) 98309)
       (step-high seventeen seventeen-long (rw is-shifted at l) ∙ ap (λ (x : ℕ). bitXor x 98309) (sym is-shifted))
 
--- After 48 turns the register holds the check bits.
-pub finish : (word register rest i : ℕ) → Going word register rest i → 48 ≤ i → register ≡ checkBits word
-unfolding checkBits checkList
-finish word register rest i g h =
-    g .held ∙ ap (λ (n : ℕ). numeral (remainder (bitsOf n word))) (let m = g .most in let e : i ≡ 48 = omega arith in e)
+-- After all turns the register holds the remainder of the bits.
+pub finish : (count word register rest i : ℕ) → Going count word register rest i → count ≤ i → register ≡ numeral (remainder (bitsOf count word))
+finish count word register rest i g h =
+    g .held ∙ ap (λ (n : ℕ). numeral (remainder (bitsOf n word))) (let m = g .most in let e : i ≡ count = omega arith in e)

@@ -33,11 +33,11 @@ quotient (suc n) [] = []
 quotient (suc n) (b ∷ p) = b ∷ quotient n (plus (scaled b) p)
 
 -- One step of the division, whatever the highest coefficient.
-step : (n : ℕ) (b : Bool) (p : List Bool) → divided (suc n) (b ∷ p) ≡ divided n (plus (scaled b) p)
+pub step : (n : ℕ) (b : Bool) (p : List Bool) → divided (suc n) (b ∷ p) ≡ divided n (plus (scaled b) p)
 step n true p = refl
 step n false p = refl
 
-scaled-length : (b : Bool) → length (scaled b) ≤ 16
+pub scaled-length : (b : Bool) → length (scaled b) ≤ 16
 scaled-length true = omega arith
 scaled-length false = omega arith
 
@@ -171,17 +171,21 @@ passes (suc n) (b ∷ p) t h =
     ∙ passes n (plus (scaled b) p) t (scaled-plus-length b n p (one-less n b p h))
     ∙ ap (λ (l : List Bool). plus l t) (sym (step n b p))
 
--- The remainder of a message with one bit more: the bit is added to the highest coefficient, and one more step is made.
-pub one-more : (m : List Bool) (d : Bool) → remainder (m ++ (d ∷ [])) ≡ divided 1 (plus (remainder m) (d ∷ replicate 16 false))
+-- The remainder of a message with more bits behind it: they are added to the message's remainder, and a step is made for each.
+pub more-bits : (m t : List Bool) → remainder (m ++ t) ≡ divided (length t) (plus (remainder m) (t ++ replicate 16 false))
 unfolding remainder
-one-more m d =
-    ap₂ divided (length-append m (d ∷ [])) (append-assoc m (d ∷ []) (zeros 16))
-    ∙ two-runs (length m) 1 (m ++ (d ∷ zeros 16))
-    ∙ ap (λ (l : List Bool). divided 1 (divided (length m) l)) spread
-    ∙ ap (divided 1) (passes (length m) (m ++ zeros 16) (d ∷ zeros 16) (message-length m))
+more-bits m t =
+    ap₂ divided (length-append m t) (append-assoc m t (zeros 16))
+    ∙ two-runs (length m) (length t) (m ++ (t ++ zeros 16))
+    ∙ ap (λ (l : List Bool). divided (length t) (divided (length m) l)) spread
+    ∙ ap (divided (length t)) (passes (length m) (m ++ zeros 16) (t ++ zeros 16) (message-length m))
   where
-    spread : m ++ (d ∷ zeros 16) ≡ plus (m ++ zeros 16) (zeros (length m) ++ (d ∷ zeros 16))
+    spread : m ++ (t ++ zeros 16) ≡ plus (m ++ zeros 16) (zeros (length m) ++ (t ++ zeros 16))
     spread =
-        sym (plus-comm (m ++ zeros 16) (zeros (length m) ++ (d ∷ zeros 16))
-        ∙ plus-parts (zeros (length m)) m (d ∷ zeros 16) (zeros 16) (length-replicate (length m) false)
-        ∙ ap₂ _++_ (zeros-plus (length m) m (omega arith)) (plus-zeros 16 (d ∷ zeros 16) (omega arith)))
+        sym (plus-comm (m ++ zeros 16) (zeros (length m) ++ (t ++ zeros 16))
+        ∙ plus-parts (zeros (length m)) m (t ++ zeros 16) (zeros 16) (length-replicate (length m) false)
+        ∙ ap₂ _++_ (zeros-plus (length m) m (omega arith)) (plus-zeros 16 (t ++ zeros 16) (omega (arith, length-append t (zeros 16)))))
+
+-- With one bit more.
+pub one-more : (m : List Bool) (d : Bool) → remainder (m ++ (d ∷ [])) ≡ divided 1 (plus (remainder m) (d ∷ replicate 16 false))
+one-more m d = more-bits m (d ∷ [])

@@ -2,6 +2,7 @@
 mod division;
 mod fields;
 
+pub use division::bits_agree;
 pub use division::check;
 pub use division::check_bits;
 pub use fields::Field;

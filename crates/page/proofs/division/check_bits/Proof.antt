@@ -1,40 +1,8 @@
--- The register holds the remainder of the bits that have entered; what is left of 48 falls.
-use mathlib.Core.Logic.{⊎-elim}
-use Prim.Native.Nat.{_-_}
-use native.Mathlib.Omega.{arith}
 use borrow.Author.Needs.{needs}
-use Rattle.page.proofs.Register.{Going, start, turn-low, turn-high, finish}
+use Rattle.page.specs.CheckBits.{checkBits, checkList}
 use Rattle.page.proofs.division.check_bits.Statement.{statement}
 use Rattle.page.proofs.division.check_bits.Tie as tie
 
-abbrev Inv-loop : tie.InvT-loop
-Inv-loop word register₀ rest₀ i₀ register rest i = Going word register rest i
-
-abbrev μ-loop : tie.MeasureT-loop
-μ-loop word register₀ rest₀ i₀ register rest i = 48 - i
-
-loop-holds : tie.Need-loop-holds Inv-loop μ-loop
-loop-holds c = start _
-
-cast-bit : tie.Need-cast-bit Inv-loop μ-loop
-cast-bit c = search needs
-
-add-i : tie.Need-add-i Inv-loop μ-loop
-add-i c = omega arith
-
-loop-less : tie.Need-loop-less Inv-loop μ-loop
-loop-less c = omega arith
-
-loop-again : tie.Need-loop-again Inv-loop μ-loop
-loop-again c =
-    ⊎-elim
-    (λ v. rw (v .1) (turn-low _ _ _ _ (c .before .before .loop .inv) (omega arith) (v .0 .taken)))
-    (λ v. rw (v .1) (turn-high _ _ _ _ (c .before .before .loop .inv) (omega arith) (v .0 .left)))
-    (c .if1 .came)
-
-returns : tie.Need-returns Inv-loop μ-loop
-returns c = finish _ _ _ _ (c .before .loop .inv) (c .loop-test .left)
-
 pub check-bits-spec : {M : Type 1} → statement M
-check-bits-spec =
-    tie.close (tie.spec Inv-loop μ-loop loop-holds cast-bit add-i loop-less loop-again returns)
+unfolding checkBits checkList
+check-bits-spec = tie.close (tie.spec (λ c κs. search needs) (λ c. c .register-after .ensures))
