@@ -7,3 +7,4 @@ pub mod LineExamples
 pub mod Windows
 pub mod ReadExamples
 pub mod PatternLaws
+pub mod CaptureLaws

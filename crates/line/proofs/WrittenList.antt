@@ -5,12 +5,13 @@ use mathlib.Core.List.{List, _++_, append-nil}
 use Prim.Native.Nat.{ℕ, _+_, _-_, _^_, _<_, _≤_}
 use native.Mathlib.Omega.{arith}
 use lib.ListN.{length, take, drop, length-drop, drop-of-length-le}
-use lib.Seq.{take-all, drop-drop}
+use lib.Seq.{drop-drop}
 use borrow.Author.Tests.{lt-ltb, le-ltb, le-leb, lt-leb}
 use Rattle.refusal.specs.Answers.{Said, refused, number}
 use Rattle.line.specs.declared.modes.LineMode.{LineMode}
 use Rattle.line.specs.Transitions.{readings, edgeCount, transitions}
 use Rattle.line.specs.Writing.{placed, saysIn, leavesIn}
+use Rattle.line.proofs.CaptureLaws.{whole-tail}
 use Rattle.line.proofs.EdgeCount.{edge-count}
 
 module _ (m : LineMode) (list : List ℕ) (place w first : ℕ) where
@@ -53,7 +54,7 @@ module _ (m : LineMode) (list : List ℕ) (place w first : ℕ) where
       module _ (room : count ≤ length list - place) where
         -- The part of the list that is lent is its tail, and has room for the page.
         lent : take (length list - place) (drop place list) ≡ drop place list
-        lent = take-all (length list - place) (drop place list) (omega (arith, length-drop place list))
+        lent = whole-tail list place
 
         pub lends : edgeCount m w ≤ length (take (length list - place) (drop place list))
         unfolding edgeCount

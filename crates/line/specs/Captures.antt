@@ -1,15 +1,17 @@
 -- 01, "The line": "A capture is a lent list of readings; reading starts at a place in the capture that the caller names, with a fresh reader."
 use Prim.Native.Nat.{ℕ, _+_}
+use mathlib.Core.Path.{_≡_}
 use mathlib.Core.Bool.{Bool, true, false, cond}
 use mathlib.Core.List.{List, [], _∷_}
 use lib.Dec.{eqb, ltb}
 use lib.ListN.{length, drop}
-use Rattle.refusal.specs.Answers.{Said, nothing, refused}
+use Rattle.refusal.specs.Answers.{Said, said, nothing, refused}
 use Rattle.line.specs.declared.modes.LineMode.{LineMode}
 use Rattle.line.specs.declared.modes.Found.{Found}
 use Rattle.line.specs.declared.modes.Found.the-variants.{Known, Unknown}
 use Rattle.line.specs.declared.reader.Reader.{Reader}
 use Rattle.line.specs.declared.reader.Reader.the-variants.{Fresh, Open, Dropping}
+use Rattle.line.specs.declared.captures.Outcome.{Outcome}
 use Rattle.line.specs.Modes.{modeOf}
 use Rattle.line.specs.Reading.{Brings, edgeOf}
 
@@ -17,6 +19,11 @@ use Rattle.line.specs.Reading.{Brings, edgeOf}
 pub record Attempt : Type 0 where
   pub says : Said
   pub next : ℕ
+
+-- That the code's answer is just this.
+pub record Tells (r : Outcome) (a : Attempt) : Type 0 where
+  pub answer : said (r .answer) ≡ a .says
+  pub next : r .next ≡ a .next
 
 abbrev pub ends : Said → ℕ → Attempt
 ends says next = record { says = says; next = next }

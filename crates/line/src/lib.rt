@@ -1,4 +1,5 @@
 // The line: clock and gaps, the two modes, a page's transitions, writing a page.
+mod captures;
 mod clock;
 mod modes;
 mod pattern;
@@ -6,6 +7,8 @@ mod reader;
 mod transitions;
 mod writer;
 
+pub use captures::Outcome;
+pub use captures::read;
 pub use clock::time_between;
 pub use modes::LineMode;
 pub use modes::judge;

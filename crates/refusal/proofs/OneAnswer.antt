@@ -96,3 +96,21 @@ again Unfit h = refl
 
 pub one-answer : (a b : Answer) → Sayable a → Sayable b → said a ≡ said b → a ≡ b
 one-answer a b ha hb e = sym (again a ha) ∙ ap heard e ∙ again b hb
+
+-- A refusal says something: no refusal has the number 0.
+pub never-zero : (r : Refusal) → eqb (numberOf r) 0 ≡ false
+never-zero Gap = refl
+never-zero Cut = refl
+never-zero Check = refl
+never-zero Selector = refl
+never-zero Tie = refl
+never-zero Changed = refl
+never-zero Echo = refl
+never-zero None = refl
+never-zero Roles = refl
+never-zero Register = refl
+never-zero Turn = refl
+never-zero Room = refl
+never-zero Wide = refl
+never-zero Mode = refl
+never-zero Odd = refl
