@@ -2,6 +2,10 @@
 ghost use mathlib.Core.Path.{_≡_};
 ghost use Prim.Native.Nat.{_+_, _≤_};
 ghost use lib.ListN.{length};
+use line::LineMode;
+use line::Reader;
+use refusal::Answer;
+use refusal::Refusal;
 
 // A mode as a cell: every number from 2 on is a wrong mode.
 fn mode_of(cell: u64) -> u32 {
@@ -92,6 +96,88 @@ fn write(
     tell_entries(answers, told, answer.packed(), list, count)
 }
 
+// Two answer cells.
+fn tell_two(answers: &mut [u64; 65536], told: usize, answer: u64, more: u64) -> usize
+    requires { ⌜ told + 3 ≤ 65536 ⌝ }
+    ensures { λ r. ⌜ r ≡ told + 3 ⌝ }
+{
+    answers[told] = 2;
+    answers[told + 1] = answer;
+    answers[told + 2] = more;
+    told + 3
+}
+
+// Operation 4: mode, place, and the capture's readings.
+fn read(
+    cells: &[u64; 65536],
+    from: usize,
+    size: usize,
+    answers: &mut [u64; 65536],
+    told: usize,
+    list: &mut [u32],
+) -> usize
+    requires { ⌜ (2 ≤ size) × (from + size ≤ 65536) × (told + 2 ≤ from) × (65536 ≤ length (now list)) ⌝ }
+    ensures { λ r. ⌜ r ≤ from + size ⌝ }
+{
+    let count = size - 2;
+    take_entries(cells, from + 2, count, list);
+    let place = cells[from + 1] as usize;
+    let outcome = line::read(&list[..count], place, mode_of(cells[from]));
+    let answer = outcome.answer;
+    tell_two(answers, told, answer.packed(), outcome.next as u64)
+}
+
+// The numbers of mode 0 or 1.
+fn line_mode(mode: u64) -> LineMode {
+    if mode == 0 {
+        return LineMode::hsm();
+    }
+    LineMode::lsm()
+}
+
+// What a reader says at each reading, from a fresh one on.
+fn tell_edges(
+    cells: &[u64; 65536],
+    from: usize,
+    count: usize,
+    mode: LineMode,
+    answers: &mut [u64; 65536],
+    told: usize,
+)
+    requires { ⌜ (from + count ≤ 65536) × (told + count ≤ 65536) ⌝ }
+{
+    let mut reader = Reader::Fresh;
+    let mut i: usize = 0;
+    while i < count {
+        let step = reader.edge(mode, low_half(cells[from + i]));
+        let answer = step.answer;
+        reader = step.reader;
+        answers[told + i] = answer.packed();
+        i += 1;
+    }
+}
+
+// Operation 7: mode, and readings.
+fn edges(
+    cells: &[u64; 65536],
+    from: usize,
+    size: usize,
+    answers: &mut [u64; 65536],
+    told: usize,
+) -> usize
+    requires { ⌜ (1 ≤ size) × (from + size ≤ 65536) × (told + 2 ≤ from) ⌝ }
+    ensures { λ r. ⌜ r ≤ from + size ⌝ }
+{
+    let mode = cells[from];
+    if 2 <= mode {
+        return tell_one(answers, told, Answer::Refused(Refusal::Mode).packed());
+    }
+    let count = size - 1;
+    answers[told] = count as u64;
+    tell_edges(cells, from + 1, count, line_mode(mode), answers, told + 1);
+    told + 1 + count
+}
+
 // One call: an operation and its arguments, which start at a place.
 fn answer_one(
     cells: &[u64; 65536],
@@ -122,6 +208,16 @@ fn answer_one(
     if operation == 3 {
         if 4 <= size {
             return write(cells, from, size, answers, told, list);
+        }
+    }
+    if operation == 4 {
+        if 2 <= size {
+            return read(cells, from, size, answers, told, list);
+        }
+    }
+    if operation == 7 {
+        if 1 <= size {
+            return edges(cells, from, size, answers, told);
         }
     }
     tell_none(answers, told)

@@ -4,6 +4,8 @@ ghost use Rattle.refusal.specs.Answers.{packed};
 ghost use Rattle.page.specs.Checked.{checked};
 ghost use Rattle.line.specs.Gaps.{judged};
 ghost use Rattle.line.specs.Writing.{writeSays, writeLeaves};
+ghost use Rattle.line.specs.Captures.{readOf};
+ghost use Rattle.maststep.specs.NextPlace.{nextLeft};
 
 // The check bits of a word, or 13.
 #[no_mangle]
@@ -34,4 +36,27 @@ pub extern "C" fn maststep_write(
     ensures leaves { λ _. ⌜ now (list .exit) ≡ writeLeaves mode (now (list .entry)) place word first ⌝ }
 {
     line::write(list, place, mode, word, first).packed()
+}
+
+// 2^56: the kind of an answer stands above its value.
+const KIND: u64 = 72057594037927936;
+
+// The first attempt from a place of a capture on: its outcome, nothing at the end of the capture, or 14, 12; and where the next attempt opens.
+#[no_mangle]
+pub extern "C" fn maststep_read(list: &[u32], place: usize, mode: u32, next: &mut usize) -> u64
+    ensures says { λ r. ⌜ r ≡ packed (readOf mode (now (list .entry)) place .says) ⌝ }
+    ensures leaves { λ _. ⌜ now (next .exit) ≡ nextLeft (readOf mode (now (list .entry)) place) (now (next .entry)) ⌝ }
+{
+    let outcome = line::read(list, place, mode);
+    let answer = outcome.answer;
+    let packed = answer.packed();
+    let kind = packed / KIND;
+    if kind == 14 {
+        return packed;
+    }
+    if kind == 12 {
+        return packed;
+    }
+    *next = outcome.next;
+    packed
 }

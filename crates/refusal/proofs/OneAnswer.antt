@@ -3,16 +3,19 @@
 -- The number of an ability is a byte in the code; here that is the premise `Sayable`.
 use mathlib.Core.Path.{_≡_, refl, sym, ap, ap₂, _∙_}
 use mathlib.Core.Bool.{Bool, true, false, cond}
-use Prim.Native.Nat.{ℕ, _+_, _-_, _<_}
+use Prim.Native.Nat.{ℕ, _+_, _-_, _/_, _^_, _<_}
+use native.Mathlib.Nat.{mod-lt}
 use native.Mathlib.Omega.{arith}
+use lib.Arith.{digits-div}
 use lib.Dec.{eqb, leb, ltb}
+use lib.Pow.{pow-pos}
 use borrow.Author.Tests.{le-leb, lt-leb}
 use Rattle.refusal.specs.declared.Refusal.{Refusal}
 use Rattle.refusal.specs.declared.Refusal.the-variants.{Gap, Cut, Check, Selector, Tie, Changed, Echo, None, Roles, Register, Turn, Room, Wide, Mode, Odd}
 use Rattle.refusal.specs.declared.Answer.{Answer}
 use Rattle.refusal.specs.declared.Answer.the-variants.{Nothing, Refused, Page, Order, Settled, Value, Number, Quiet, Unfit}
 use Rattle.refusal.specs.Numbers.{numberOf}
-use Rattle.refusal.specs.Answers.{Said, said}
+use Rattle.refusal.specs.Answers.{Said, said, packed}
 
 -- The refusal with a number of 01's table; past its end the last.
 abbrev refusalAt : ℕ → Refusal
@@ -114,3 +117,7 @@ never-zero Room = refl
 never-zero Wide = refl
 never-zero Mode = refl
 never-zero Odd = refl
+
+-- The kind of an answer is read off its number.
+pub kind-of-packed : (s : Said) → packed s / 2 ^ 56 ≡ s .kind
+kind-of-packed s = digits-div (s .kind) (mod-lt (s .value) (pow-pos 56))
