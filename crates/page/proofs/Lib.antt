@@ -6,3 +6,5 @@ pub mod BinaryNumbers
 pub mod WordBits
 pub mod Register
 pub mod CheckTheorem
+pub mod Multiples
+pub mod Strength
