@@ -12,20 +12,11 @@ use lib.Pow.{pow-pos, mod-pow-add, shr-lt}
 use lib.Seq.{take-suc, take-all}
 use Rattle.page.specs.Word.{odd, bitsOf}
 use Rattle.page.specs.CheckBits.{checkBits, checkList}
-use Rattle.page.proofs.BinaryNumbers.{bit, odd-bit, digitsOf}
+use Rattle.page.proofs.BinaryNumbers.{bit, odd-bit, digitsOf, trues, trues-append}
 use Rattle.page.proofs.CheckTheorem.{checkList-digits, check-below}
 use Rattle.line.specs.Transitions.{hasTransition, positionsTo, transitions, sentBits}
 use Rattle.line.proofs.PagePattern.{at-clock, at-bit, at-156}
 use Rattle.line.proofs.SentBits.{sent-length}
-
--- The number of ones in a list of bits.
-abbrev pub trues : List Bool → ℕ
-trues [] = 0
-trues (b ∷ l) = bit b + trues l
-
-trues-append : (l r : List Bool) → trues (l ++ r) ≡ trues l + trues r
-trues-append [] r = omega arith
-trues-append (b ∷ l) r = ap (λ (n : ℕ). bit b + n) (trues-append l r) ∙ sym (add-assoc (bit b) (trues l) (trues r))
 
 -- One position more.
 pub count-more : (test : ℕ → Bool) (n : ℕ) → length (positionsTo test (suc n)) ≡ length (positionsTo test n) + bit (test (suc n))

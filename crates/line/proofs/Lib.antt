@@ -8,3 +8,4 @@ pub mod Windows
 pub mod ReadExamples
 pub mod PatternLaws
 pub mod CaptureLaws
+pub mod Damage

@@ -22,6 +22,15 @@ bit-below : (b : Bool) → bit b < 2
 bit-below true = omega arith
 bit-below false = omega arith
 
+-- The number of ones in a list of bits.
+abbrev pub trues : List Bool → ℕ
+trues [] = 0
+trues (b ∷ l) = bit b + trues l
+
+pub trues-append : (l r : List Bool) → trues (l ++ r) ≡ trues l + trues r
+trues-append [] r = omega arith
+trues-append (b ∷ l) r = ap (λ (n : ℕ). bit b + n) (trues-append l r) ∙ sym (add-assoc (bit b) (trues l) (trues r))
+
 -- The highest bit apart.
 pub highest : (b : Bool) (p : List Bool) → numeral (b ∷ p) ≡ bit b * 2 ^ length p + numeral p
 highest true p = ap (λ (x : ℕ). x + numeral p) (sym (one-mul (2 ^ length p)))

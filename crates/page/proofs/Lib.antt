@@ -7,3 +7,5 @@ pub mod WordBits
 pub mod Register
 pub mod CheckTheorem
 pub mod Agreement
+pub mod Multiples
+pub mod Strength

@@ -36,6 +36,11 @@ xor-assoc false true false = refl
 xor-assoc false false true = refl
 xor-assoc false false false = refl
 
+pub xor-self : (b : Bool) → xor b b ≡ false
+unfolding xor
+xor-self true = refl
+xor-self false = refl
+
 pub xor-twice : (a b : Bool) → xor a (xor a b) ≡ b
 unfolding xor
 xor-twice true true = refl

@@ -10,7 +10,7 @@ use lib.ListN.{length, replicate, drop, length-append, length-replicate}
 use Rattle.page.specs.CheckBits.{plus, generator, divided, remainder}
 use Rattle.page.proofs.Polynomials.{xor-false, plus-comm, plus-assoc, plus-twice, plus-length, zeros-plus, plus-zeros, plus-parts, plus-self}
 
-abbrev zeros : ℕ → List Bool
+abbrev pub zeros : ℕ → List Bool
 zeros n = replicate n false
 
 -- The divisor without its highest power, and a coefficient times that.
@@ -41,13 +41,13 @@ pub scaled-length : (b : Bool) → length (scaled b) ≤ 16
 scaled-length true = omega arith
 scaled-length false = omega arith
 
-scaled-fits : (b : Bool) (n : ℕ) (p : List Bool) → length p ≡ n + 16 → length (scaled b) ≤ length p
+pub scaled-fits : (b : Bool) (n : ℕ) (p : List Bool) → length p ≡ n + 16 → length (scaled b) ≤ length p
 scaled-fits b n p h = let s = scaled-length b in omega arith
 
-scaled-plus-length : (b : Bool) (n : ℕ) (p : List Bool) → length p ≡ n + 16 → length (plus (scaled b) p) ≡ n + 16
+pub scaled-plus-length : (b : Bool) (n : ℕ) (p : List Bool) → length p ≡ n + 16 → length (plus (scaled b) p) ≡ n + 16
 scaled-plus-length b n p h = plus-length (scaled b) p (scaled-fits b n p h) ∙ h
 
-one-less : (n : ℕ) (b : Bool) (p : List Bool) → length (b ∷ p) ≡ suc n + 16 → length p ≡ n + 16
+pub one-less : (n : ℕ) (b : Bool) (p : List Bool) → length (b ∷ p) ≡ suc n + 16 → length p ≡ n + 16
 one-less n b p h = omega arith
 
 pub divided-length : (n : ℕ) (p : List Bool) → length p ≡ n + 16 → length (divided n p) ≡ 16
@@ -55,7 +55,7 @@ divided-length zero p h = h
 divided-length (suc n) [] h = absurd (omega arith)
 divided-length (suc n) (b ∷ p) h = ap length (step n b p) ∙ divided-length n (plus (scaled b) p) (scaled-plus-length b n p (one-less n b p h))
 
-times-length : (q : List Bool) → length (times q) ≡ length q + 16
+pub times-length : (q : List Bool) → length (times q) ≡ length q + 16
 times-length [] = refl
 times-length (b ∷ q) = let e = scaled-plus-length b (length q) (times q) (times-length q) in omega arith
 
@@ -96,7 +96,7 @@ pub remainder-length : (m : List Bool) → length (remainder m) ≡ 16
 unfolding remainder
 remainder-length m = divided-length (length m) (m ++ zeros 16) (message-length m)
 
-quotient-length : (n : ℕ) (p : List Bool) → length p ≡ n + 16 → length (quotient n p) ≡ n
+pub quotient-length : (n : ℕ) (p : List Bool) → length p ≡ n + 16 → length (quotient n p) ≡ n
 quotient-length zero p h = refl
 quotient-length (suc n) [] h = absurd (omega arith)
 quotient-length (suc n) (b ∷ p) h = ap suc (quotient-length n (plus (scaled b) p) (scaled-plus-length b n p (one-less n b p h)))
@@ -153,7 +153,7 @@ divided-nil : (k : ℕ) → divided k [] ≡ []
 divided-nil zero = refl
 divided-nil (suc k) = refl
 
-two-runs : (n k : ℕ) (p : List Bool) → divided (n + k) p ≡ divided k (divided n p)
+pub two-runs : (n k : ℕ) (p : List Bool) → divided (n + k) p ≡ divided k (divided n p)
 two-runs zero k p = ap (λ (x : ℕ). divided x p) (zero-add k)
 two-runs (suc n) k [] = ap (λ (x : ℕ). divided x []) (suc-add n k) ∙ sym (divided-nil k)
 two-runs (suc n) k (b ∷ p) =
