@@ -12,12 +12,9 @@ use lib.Seq.{getD-append-add}
 use Rattle.page.specs.Word.{odd, bitsOf}
 use Rattle.page.specs.CheckBits.{checkList, checkBits}
 use Rattle.page.proofs.BinaryNumbers.{digitsOf, digit-at}
+use Rattle.page.proofs.WordBits.{bits-length}
 use Rattle.page.proofs.CheckTheorem.{checkList-length, checkList-digits}
 use Rattle.line.specs.Transitions.{sentBits}
-
-bits-length : (n w : ℕ) → length (bitsOf n w) ≡ n
-bits-length zero w = refl
-bits-length (suc n) w = ap suc (bits-length n (w / 2))
 
 bit-at-place : (n w j : ℕ) → j < n → getD (bitsOf n w) j false ≡ odd (w / 2 ^ j)
 bit-at-place zero w j h = absurd (not-suc-le-zero h)

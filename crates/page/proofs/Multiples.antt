@@ -107,7 +107,7 @@ end-step n p h e = one-step (divided n p) (divided-length n p h) (sym twice ∙ 
         ∙ two-runs n 1 (p ++ (false ∷ []))
         ∙ ap (divided 1) (divided-append n p (false ∷ []) h)
 
-ended : (k n : ℕ) (p : List Bool) → length p ≡ n + 16 → divided (n + k) (p ++ zeros k) ≡ zeros 16 → divided n p ≡ zeros 16
+pub ended : (k n : ℕ) (p : List Bool) → length p ≡ n + 16 → divided (n + k) (p ++ zeros k) ≡ zeros 16 → divided n p ≡ zeros 16
 ended zero n p h e = sym (ap₂ divided (add-zero n) (append-nil p)) ∙ e
 ended (suc k) n p h e = end-step n p h (ended k (suc n) (p ++ (false ∷ [])) long (moved ∙ e))
   where
