@@ -10,12 +10,27 @@ const MOST_PRINTED: usize = 5;
 /// Sends all calls, in batches as full as the limit lets, and fails the test if one
 /// answer cell differs.
 pub fn assert_agreement(calls: &[Call]) {
-    let batches = full_batches(calls);
-    let inputs: Vec<Vec<u8>> = batches
-        .iter()
+    assert_scripts_agree(&batch_inputs(calls));
+}
+
+/// Sends all calls, in batches as full as the limit lets, and gives the answer cells of
+/// each call, whatever they are. The model is not asked.
+pub fn drives_answers(calls: &[Call]) -> Vec<Vec<u64>> {
+    let mut answers = Vec::new();
+    for output in drive::run_each(&batch_inputs(calls)) {
+        let output = output.unwrap_or_else(|words| panic!("{words}"));
+        let groups = answer_groups(&output);
+        answers.extend(groups.into_iter().map(|group| group[1..].to_vec()));
+    }
+    assert_eq!(answers.len(), calls.len(), "every call has an answer");
+    answers
+}
+
+fn batch_inputs(calls: &[Call]) -> Vec<Vec<u8>> {
+    full_batches(calls)
+        .into_iter()
         .map(|batch| to_bytes(&all_cells(batch)))
-        .collect();
-    assert_scripts_agree(&inputs);
+        .collect()
 }
 
 /// Sends each script in a process of its own and fails the test if an output is not
@@ -48,6 +63,24 @@ pub fn assert_answers(calls_and_answers: &[(Call, u64)]) {
                 "{call}\n  expected answer {expected:#x}, got {}",
                 shown(got.as_ref())
             ));
+        }
+    }
+    fail_if_any(&differences);
+}
+
+/// Sends the calls and fails the test if the answer cells of one, or those of the model,
+/// are not the cells beside it.
+pub fn assert_answer_cells(calls_and_cells: &[(Call, Vec<u64>)]) {
+    let calls: Vec<Call> = calls_and_cells.iter().map(|pair| pair.0.clone()).collect();
+    let with_their_number = |cells: &[u64]| [&[cells.len() as u64], cells].concat();
+    let mut differences = Vec::new();
+    for ((call, expected), got) in calls_and_cells.iter().zip(drives_answers(&calls)) {
+        if *expected != got {
+            let (expected, got) = (with_their_number(expected), with_their_number(&got));
+            differences.push(call_difference(call, &expected, Some(&got)));
+        }
+        if model::answer_cells(call).as_ref() != Ok(expected) {
+            differences.push(format!("{call}\n  the model differs"));
         }
     }
     fail_if_any(&differences);
@@ -151,7 +184,8 @@ fn described(input: &[u8]) -> String {
     )
 }
 
-fn fail_if_any(differences: &[String]) {
+/// Fails the test with the first of these words, if there are any.
+pub fn fail_if_any(differences: &[String]) {
     if !differences.is_empty() {
         let number = differences.len();
         let first = &differences[..number.min(MOST_PRINTED)];

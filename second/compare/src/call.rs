@@ -5,8 +5,12 @@ use std::fmt;
 pub const CHECK: u64 = 1;
 pub const JUDGE: u64 = 2;
 pub const WRITE: u64 = 3;
+pub const READ: u64 = 4;
+pub const EDGES: u64 = 7;
+/// The operations that this program has, each with the fewest arguments that it needs.
+pub const HERE: [(u64, usize); 5] = [(CHECK, 1), (JUDGE, 2), (WRITE, 4), (READ, 2), (EDGES, 1)];
 /// Operations that `drive` knows and this program does not have yet.
-pub const NOT_HERE_YET: std::ops::RangeInclusive<u64> = 4..=7;
+pub const NOT_HERE_YET: [u64; 2] = [5, 6];
 
 /// More arguments than this are not printed.
 const MOST_PRINTED: usize = 8;
@@ -39,6 +43,18 @@ impl Call {
         call
     }
 
+    pub fn read(mode: u64, place: u64, readings: &[u64]) -> Call {
+        let mut call = Call::new(READ, &[mode, place]);
+        call.arguments.extend(readings);
+        call
+    }
+
+    pub fn edges(mode: u64, readings: &[u64]) -> Call {
+        let mut call = Call::new(EDGES, &[mode]);
+        call.arguments.extend(readings);
+        call
+    }
+
     /// The call as it is sent.
     pub fn cells(&self) -> Vec<u64> {
         let mut cells = vec![self.operation, self.arguments.len() as u64];
@@ -63,6 +79,8 @@ impl fmt::Display for Call {
             CHECK => "check",
             JUDGE => "judge",
             WRITE => "write",
+            READ => "read",
+            EDGES => "edges",
             _ => "unknown here",
         };
         write!(out, "operation {} ({name}), ", self.operation)?;

@@ -1,63 +1,18 @@
-//! Starting the program `drive`, one process for each input.
+//! The program `drive`.
 
-use crate::process;
-use std::path::PathBuf;
-use std::process::Command;
-use std::sync::atomic::{AtomicUsize, Ordering};
-use std::sync::OnceLock;
-use std::thread;
+use crate::program::Program;
 
-/// The environment variable with the path of the program.
-pub const VARIABLE: &str = "MASTSTEP_DRIVE";
-
-/// At least so many processes run side by side: part of a start is waiting.
-const FEWEST_SIDE_BY_SIDE: usize = 4;
-
-/// The path of the program, or words that say what to set.
-pub fn program() -> Result<PathBuf, String> {
-    match std::env::var_os(VARIABLE) {
-        Some(path) if !path.is_empty() => Ok(PathBuf::from(path)),
-        _ => Err(format!(
-            "{VARIABLE} is not set: set it to the path of the program `drive`, \
-             one executable without arguments"
-        )),
-    }
-}
+const DRIVE: Program = Program {
+    name: "drive",
+    variable: "MASTSTEP_DRIVE",
+};
 
 /// The output for this input. Ending with another status than success is a failure.
 pub fn run(input: &[u8]) -> Result<Vec<u8>, String> {
-    let ended = process::run(&mut Command::new(program()?), input)?;
-    if ended.status.success() {
-        Ok(ended.output)
-    } else {
-        Err(format!("drive did not end well: {}", ended.status))
-    }
+    DRIVE.run(input)
 }
 
-/// Runs each input in a process of its own, several side by side; the outputs are in
-/// the order of the inputs.
+/// The outputs for these inputs, in their order.
 pub fn run_each(inputs: &[Vec<u8>]) -> Vec<Result<Vec<u8>, String>> {
-    let outputs: Vec<OnceLock<_>> = inputs.iter().map(|_| OnceLock::new()).collect();
-    let next = AtomicUsize::new(0);
-    thread::scope(|scope| {
-        for _ in 0..side_by_side().min(inputs.len()) {
-            scope.spawn(|| loop {
-                let index = next.fetch_add(1, Ordering::Relaxed);
-                let Some(input) = inputs.get(index) else {
-                    return;
-                };
-                // No other thread has this index, so the slot is still empty.
-                let _ = outputs[index].set(run(input));
-            });
-        }
-    });
-    outputs
-        .into_iter()
-        .map(|slot| slot.into_inner().expect("every input was run"))
-        .collect()
-}
-
-fn side_by_side() -> usize {
-    let processors = thread::available_parallelism().map_or(1, |number| number.get());
-    processors.max(FEWEST_SIDE_BY_SIDE)
+    DRIVE.run_each(inputs)
 }

@@ -1,6 +1,7 @@
 //! Random arguments, drawn so that the interesting cases come often.
 
 use crate::call::Call;
+use crate::captures::any_short_capture;
 use crate::random::Random;
 use reference::line_mode::{line_mode, LineMode, HSM, LSM};
 use reference::{check, page};
@@ -14,6 +15,9 @@ const MOST_ENTRIES: u64 = 150;
 
 /// The lists of the writing calls have up to so many entries more than the page.
 const MOST_SPARE_ENTRIES: u64 = 60;
+
+/// The captures of calls that are sent among others have up to so many readings.
+const MOST_SHORT_READINGS: usize = 40;
 
 pub const WRONG_MODES: [u64; 10] = [
     2,
@@ -98,7 +102,7 @@ pub fn judge_call(random: &mut Random) -> Call {
 }
 
 /// A gap within 3 of a number at which the judgement changes.
-fn near_a_window_end(random: &mut Random, mode: &LineMode) -> u64 {
+pub fn near_a_window_end(random: &mut Random, mode: &LineMode) -> u64 {
     let ends = window_ends(mode);
     (random.pick(&ends) + random.below(7)).saturating_sub(3)
 }
@@ -190,7 +194,48 @@ fn entries(random: &mut Random, length: u64) -> Vec<u64> {
         .collect()
 }
 
-fn first_reading(random: &mut Random) -> u64 {
+/// The cells of a capture's readings. Of some captures they are above 2^32, which makes
+/// no difference to what they mean.
+pub fn reading_cells(random: &mut Random, readings: &[u32]) -> Vec<u64> {
+    let wide = random.once_in(4);
+    readings
+        .iter()
+        .map(|reading| match wide {
+            true => random.any_number() << 32 | u64::from(*reading),
+            false => u64::from(*reading),
+        })
+        .collect()
+}
+
+/// A reading of a short capture, from any place. A few have something wrong.
+pub fn read_call(random: &mut Random) -> Call {
+    let (mode, cells) = short_capture(random);
+    let length = cells.len() as u64;
+    let place = match random.below(6) {
+        0 => random.pick(&[length, length + 1, TWO_TO_32, u64::MAX]),
+        1 | 2 => random.below(length + 1),
+        _ => 0,
+    };
+    Call::read(mode, place, &cells)
+}
+
+/// The edges of a short capture. A few have a wrong mode.
+pub fn edges_call(random: &mut Random) -> Call {
+    let (mode, cells) = short_capture(random);
+    Call::edges(mode, &cells)
+}
+
+fn short_capture(random: &mut Random) -> (u64, Vec<u64>) {
+    let capture = any_short_capture(random, MOST_SHORT_READINGS);
+    let mode = if random.once_in(8) {
+        wrong_mode(random)
+    } else {
+        capture.mode
+    };
+    (mode, reading_cells(random, &capture.readings))
+}
+
+pub fn first_reading(random: &mut Random) -> u64 {
     match random.below(6) {
         0 => 0,
         1 => TWO_TO_32 - 1 - random.below(4680),

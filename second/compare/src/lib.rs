@@ -1,15 +1,19 @@
-//! Compares the program `drive` with the reference, through a pipe.
+//! Compares the programs `drive` and `listing` with the reference, through a pipe.
 //!
-//! A test makes calls (`call`, `generate`), sends them to `drive` in batches
-//! (`drive`, `process`) and holds the output against what the reference gives
-//! (`model`, `agreement`).
+//! A test makes calls (`call`, `generate`, `captures`), sends them to `drive` in batches
+//! (`drive`, `program`, `process`) and holds the output against what the reference gives
+//! (`model`, `agreement`). `listing` does the same for the program of that name.
 
 pub mod agreement;
 pub mod call;
+pub mod captures;
 pub mod cells;
 pub mod drive;
 pub mod generate;
 pub mod kinds;
+pub mod listing;
 pub mod model;
 pub mod process;
+pub mod program;
 pub mod random;
+pub mod tally;

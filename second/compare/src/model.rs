@@ -1,6 +1,6 @@
 //! What `drive` has to do, over the reference: bytes in, bytes out.
 
-use crate::call::{Call, CHECK, JUDGE, NOT_HERE_YET, WRITE};
+use crate::call::{Call, CHECK, EDGES, JUDGE, NOT_HERE_YET, READ, WRITE};
 use crate::cells::{modulo_2_to_32, to_bytes, whole_cells, MOST_CELLS};
 use reference::calls;
 
@@ -52,17 +52,37 @@ pub fn answer_cells(call: &Call) -> Result<Vec<u64>, NotModelledYet> {
         (WRITE, [mode, word, first, place, entries @ ..]) => {
             Ok(write(*mode, *word, *first, *place, entries))
         }
+        (READ, [mode, place, readings @ ..]) => Ok(read(*mode, *place, readings)),
+        (EDGES, [mode, readings @ ..]) => Ok(edges(*mode, readings)),
         (operation, _) if NOT_HERE_YET.contains(&operation) => Err(NotModelledYet),
         _ => Ok(Vec::new()),
     }
 }
 
 fn write(mode: u64, word: u64, first: u64, place: u64, entries: &[u64]) -> Vec<u64> {
-    let mut list: Vec<u32> = entries.iter().map(|cell| modulo_2_to_32(*cell)).collect();
+    let mut list = all_modulo_2_to_32(entries);
     let answer = calls::write(&mut list, place, mode, word, modulo_2_to_32(first));
     let mut cells = vec![answer];
     cells.extend(list.into_iter().map(u64::from));
     cells
+}
+
+/// Where the call names no next place, it is left as it was; `drive` starts with the
+/// place that was named.
+fn read(mode: u64, place: u64, readings: &[u64]) -> Vec<u64> {
+    let (answer, next) = calls::read(&all_modulo_2_to_32(readings), place, mode);
+    vec![answer, next.unwrap_or(place)]
+}
+
+fn edges(mode: u64, readings: &[u64]) -> Vec<u64> {
+    match calls::edges(mode, &all_modulo_2_to_32(readings)) {
+        Ok(answers) => answers,
+        Err(refusal) => vec![refusal],
+    }
+}
+
+fn all_modulo_2_to_32(cells: &[u64]) -> Vec<u32> {
+    cells.iter().map(|cell| modulo_2_to_32(*cell)).collect()
 }
 
 #[cfg(test)]
@@ -90,7 +110,19 @@ mod tests {
     }
 
     #[test]
+    fn a_refused_reading_leaves_the_named_place() {
+        let call = Call::read(0, 9, &[0, 30]);
+        assert_eq!(answer_cells(&call), Ok(vec![answer::ROOM, 9]));
+    }
+
+    #[test]
+    fn edges_in_a_wrong_mode_have_one_answer() {
+        let call = Call::edges(2, &[0, 30, 60]);
+        assert_eq!(answer_cells(&call), Ok(vec![answer::MODE]));
+    }
+
+    #[test]
     fn later_operations_are_not_guessed() {
-        assert_eq!(answer_cells(&Call::new(4, &[])), Err(NotModelledYet));
+        assert_eq!(answer_cells(&Call::new(5, &[])), Err(NotModelledYet));
     }
 }

@@ -1,5 +1,13 @@
 //! An answer as one number: the top byte says which kind it is, the rest is its value.
 
+/// There is no answer.
+pub const NOTHING: u64 = 0;
+/// Refusal 1: the attempt ended with a gap that the pattern does not ask for.
+pub const GAP: u64 = refusal(1);
+/// Refusal 2: the attempt ended with a quiet gap.
+pub const CUT: u64 = refusal(2);
+/// Refusal 3: the attempt came to its last position, and the check bits do not agree.
+pub const CHECK: u64 = refusal(3);
 /// Refusal 12: the place is past the end, or the page does not fit from there on.
 pub const ROOM: u64 = refusal(12);
 /// Refusal 13: the word is 2^48 or more.
@@ -16,6 +24,11 @@ pub const fn refusal(number: u64) -> u64 {
     number << 56
 }
 
+/// A good page was read, with this word.
+pub const fn good(word: u64) -> u64 {
+    (0x80 << 56) | word
+}
+
 /// A plain number: check bits, a count of readings, or the positions of a gap.
 pub const fn number(value: u64) -> u64 {
     (0x84 << 56) | value
@@ -27,6 +40,8 @@ mod tests {
 
     #[test]
     fn the_kind_is_in_the_top_byte() {
+        assert_eq!([NOTHING, GAP, CUT, CHECK], [0, 1 << 56, 2 << 56, 3 << 56]);
+        assert_eq!(good(0xABC), 0x8000_0000_0000_0ABC);
         assert_eq!(ROOM, 0x0C00_0000_0000_0000);
         assert_eq!(WIDE, 0x0D00_0000_0000_0000);
         assert_eq!(MODE, 0x0E00_0000_0000_0000);

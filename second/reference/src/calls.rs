@@ -2,7 +2,7 @@
 //! Wrong things are looked at in 01's order: Mode, Wide, Room.
 
 use crate::line_mode::line_mode;
-use crate::{answer, check, gap, page};
+use crate::{answer, check, gap, page, reader};
 
 /// The check bits of a word, or Wide.
 pub fn check(word: u64) -> u64 {
@@ -42,6 +42,32 @@ pub fn write(list: &mut [u32], place: u64, mode: u64, word: u64, first: u32) -> 
 fn room_for(list: &mut [u32], place: u64, entries: usize) -> Option<&mut [u32]> {
     let place = usize::try_from(place).ok()?;
     list.get_mut(place..)?.get_mut(..entries)
+}
+
+/// The outcome of the first attempt from the place on, and where the next one opens.
+/// A refusal, and nothing, name no next place.
+pub fn read(list: &[u32], place: u64, mode: u64) -> (u64, Option<u64>) {
+    let Some(mode) = line_mode(mode) else {
+        return (answer::MODE, None);
+    };
+    let length = list.len() as u64;
+    if place > length {
+        return (answer::ROOM, None);
+    }
+    if place == length {
+        return (answer::NOTHING, None);
+    }
+    // The place is below the length, so it fits.
+    let attempt = reader::judge_all(mode, list).attempt(place as usize);
+    (attempt.outcome.answer(), Some(attempt.next as u64))
+}
+
+/// What a fresh reader answers at each edge, or Mode.
+pub fn edges(mode: u64, readings: &[u32]) -> Result<Vec<u64>, u64> {
+    match line_mode(mode) {
+        Some(mode) => Ok(reader::answers_at_edges(mode, readings)),
+        None => Err(answer::MODE),
+    }
 }
 
 #[cfg(test)]
@@ -93,5 +119,34 @@ mod tests {
         for place in [90, 91, 1 << 32, 1 << 63, u64::MAX] {
             assert_eq!(write(&mut [7; 90], place, 0, 0, 0), answer::ROOM);
         }
+    }
+
+    #[test]
+    fn reading_refuses_mode_then_room_and_answers_nothing_at_the_length() {
+        for list in [&[][..], &[0, 30, 60]] {
+            let length = list.len() as u64;
+            for place in [0, length, length + 1, u64::MAX] {
+                assert_eq!(read(list, place, 2), (answer::MODE, None));
+            }
+            for past in [length + 1, 1 << 32, u64::MAX] {
+                assert_eq!(read(list, past, 0), (answer::ROOM, None));
+            }
+            assert_eq!(read(list, length, 1), (answer::NOTHING, None));
+        }
+    }
+
+    #[test]
+    fn reading_starts_at_the_named_place() {
+        let list = [0, 30, 60, 190, 220];
+        assert_eq!(read(&list, 0, 0), (answer::CUT, Some(3)));
+        assert_eq!(read(&list, 2, 0), (answer::CUT, Some(3)));
+        assert_eq!(read(&list, 3, 0), (answer::CUT, Some(5)));
+    }
+
+    #[test]
+    fn edges_are_answered_one_by_one_or_the_mode_is_refused() {
+        assert_eq!(edges(0, &[0, 0]), Ok(vec![answer::NOTHING, answer::GAP]));
+        assert_eq!(edges(1, &[]), Ok(vec![]));
+        assert_eq!(edges(2, &[0, 0]), Err(answer::MODE));
     }
 }

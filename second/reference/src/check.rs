@@ -18,6 +18,13 @@ pub fn word_bits(word: u64) -> Vec<bool> {
     (0..WORD_BITS).map(|bit| word >> bit & 1 == 1).collect()
 }
 
+/// The word whose D0 to D47 these are, in this order.
+pub fn word_of(bits: &[bool]) -> u64 {
+    bits.iter()
+        .rev()
+        .fold(0, |word, bit| 2 * word + u64::from(*bit))
+}
+
 /// S15 to S0, in this order: what is left of the 48 bits times x^16.
 ///
 /// The row starts with the highest power, which is D0. Times x^16 means that
@@ -51,6 +58,13 @@ mod tests {
         let bits = word_bits(0b101);
         assert_eq!(bits.len(), 48);
         assert!(bits[0] && !bits[1] && bits[2]);
+    }
+
+    #[test]
+    fn a_row_of_bits_gives_its_word_back() {
+        for word in [0, 1, 0b101, 1 << 47, 0x1234_5678_9ABC] {
+            assert_eq!(word_of(&word_bits(word)), word);
+        }
     }
 
     #[test]

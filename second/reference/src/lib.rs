@@ -8,7 +8,9 @@ pub mod calls;
 pub mod check;
 pub mod gap;
 pub mod line_mode;
+pub mod listing;
 pub mod page;
+pub mod reader;
 
 #[cfg(test)]
 mod table_of_01;

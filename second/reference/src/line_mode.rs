@@ -3,6 +3,7 @@
 /// What 01 says of one mode. All times are in nanoseconds.
 #[derive(Debug)]
 pub struct LineMode {
+    pub name: &'static str,
     pub spacing: u32,
     pub tolerance: u32,
     pub quiet_limit: u32,
@@ -12,6 +13,7 @@ pub struct LineMode {
 
 /// Mode 0, high speed.
 pub const HSM: LineMode = LineMode {
+    name: "HSM",
     spacing: 30,
     tolerance: 9,
     quiet_limit: 130,
@@ -20,6 +22,7 @@ pub const HSM: LineMode = LineMode {
 
 /// Mode 1, low speed.
 pub const LSM: LineMode = LineMode {
+    name: "LSM",
     spacing: 800,
     tolerance: 240,
     quiet_limit: 3441,

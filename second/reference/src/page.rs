@@ -13,15 +13,33 @@ fn sent_bits(word: u64) -> Vec<bool> {
     bits
 }
 
-/// Whether 01 gives a transition at this position.
-fn has_transition(mode: &LineMode, bits: &[bool], position: usize) -> bool {
+/// What 01 asks of one position.
+#[derive(Debug, PartialEq)]
+pub enum Asked {
+    Transition,
+    NoTransition,
+    /// A transition if this one of the 64 bits is one. The bits are counted from 0 in
+    /// the order of sending.
+    Bit(usize),
+}
+
+/// What 01 asks of a position of a page. Nothing is at a number that is no position.
+pub fn asked(mode: &LineMode, position: usize) -> Asked {
     let is_odd = position % 2 == 1;
     match position {
-        1..=26 => mode.delimiter.contains(&position),
-        27..=153 if is_odd => true,
-        28..=154 => bits[(position - 28) / 2],
-        155 | 157 => true,
-        _ => false,
+        1..=26 if mode.delimiter.contains(&position) => Asked::Transition,
+        27..=153 if is_odd => Asked::Transition,
+        28..=154 => Asked::Bit((position - 28) / 2),
+        155 | 157 => Asked::Transition,
+        _ => Asked::NoTransition,
+    }
+}
+
+fn has_transition(mode: &LineMode, bits: &[bool], position: usize) -> bool {
+    match asked(mode, position) {
+        Asked::Transition => true,
+        Asked::NoTransition => false,
+        Asked::Bit(bit) => bits[bit],
     }
 }
 
@@ -78,6 +96,13 @@ mod tests {
             for word in [0, 1, (1 << 48) - 1] {
                 assert!(transitions(mode, word).ends_with(&[155, 157]));
             }
+        }
+    }
+
+    #[test]
+    fn beyond_the_ends_of_a_page_there_is_no_transition() {
+        for position in [0, 158, 159, 160] {
+            assert_eq!(asked(&LSM, position), Asked::NoTransition);
         }
     }
 

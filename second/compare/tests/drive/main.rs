@@ -5,6 +5,10 @@
 
 mod edges;
 mod every_gap;
+mod every_place;
 mod protocol;
 mod random_calls;
+mod random_captures;
 mod random_scripts;
+mod reading;
+mod walk;

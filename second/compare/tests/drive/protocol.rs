@@ -1,7 +1,7 @@
 //! The protocol of `drive`: what it answers to calls that are unknown, cut or too long.
 
 use compare::agreement::assert_scripts_agree;
-use compare::call::{all_cells, printed, Call, CHECK, JUDGE, WRITE};
+use compare::call::{all_cells, printed, Call, CHECK, EDGES, HERE, JUDGE, READ, WRITE};
 use compare::cells::{to_bytes, whole_cells, MOST_CELLS};
 use compare::{drive, model};
 use reference::answer::{number, MODE};
@@ -57,11 +57,7 @@ fn unknown_operations_answer_no_cells() {
 fn known_operations_with_too_few_arguments_answer_no_cells() {
     let too_few =
         |(operation, needed)| (0..needed).map(move |count| Call::new(operation, &vec![1; count]));
-    assert_no_cells(
-        [(CHECK, 1), (JUDGE, 2), (WRITE, 4)]
-            .into_iter()
-            .flat_map(too_few),
-    );
+    assert_no_cells(HERE.into_iter().flat_map(too_few));
 }
 
 #[test]
@@ -105,7 +101,7 @@ fn a_call_with_more_arguments_than_the_input_has_is_not_answered() {
     ];
     let mut scripts = Vec::new();
     for (index, number_of_arguments) in numbers.into_iter().enumerate() {
-        let operation = [CHECK, JUDGE, WRITE, 99][index % 4];
+        let operation = [CHECK, JUDGE, WRITE, READ, EDGES, 99][index % 6];
         let mut cells = known_check().cells();
         cells.extend([operation, number_of_arguments, 0, 0, 0, 0]);
         cells.extend(known_check().cells());
@@ -137,6 +133,26 @@ fn one_call_may_fill_all_65_536_cells() {
     assert_eq!(call.length(), MOST_CELLS);
     let longer = Call::write(0, 0, 0, 0, &vec![5; MOST_CELLS - 5]);
     assert_scripts_agree(&[to_bytes(&call.cells()), to_bytes(&longer.cells())]);
+}
+
+#[test]
+fn a_capture_may_fill_all_65_536_cells() {
+    // Every fifth gap is quiet in HSM.
+    let readings: Vec<u64> = (0..MOST_CELLS as u64)
+        .map(|edge| 30 * edge + 100 * (edge / 5))
+        .collect();
+    let last_place = MOST_CELLS as u64 - 5;
+    let scripts: Vec<Vec<u8>> = [
+        Call::read(0, 0, &readings[4..]),
+        Call::read(0, last_place, &readings[4..]),
+        Call::edges(0, &readings[3..]),
+        Call::read(0, 0, &readings[3..]),
+        Call::edges(0, &readings[2..]),
+    ]
+    .iter()
+    .map(|call| to_bytes(&call.cells()))
+    .collect();
+    assert_scripts_agree(&scripts);
 }
 
 #[test]

@@ -1,9 +1,9 @@
 //! Random input, most of it nonsense: `drive` must end well and do what the model does.
 
 use compare::agreement::assert_scripts_agree;
-use compare::call::{all_cells, Call};
+use compare::call::{all_cells, Call, HERE};
 use compare::cells::to_bytes;
-use compare::generate::{check_call, judge_call, write_call};
+use compare::generate::{check_call, edges_call, judge_call, read_call, write_call};
 use compare::kinds::{Kind, Kinds};
 use compare::model;
 use compare::random::Random;
@@ -33,17 +33,18 @@ const SCRIPT_KINDS: &[Kind<Vec<u8>>] = &[
     ("ends with a whole call", |script| left_over(script) == 0),
     ("ends inside a cell", |script| script.len() % 8 != 0),
     ("has an answered check, judgement and writing", |script| {
-        let calls = model::whole_calls(script);
-        (1..=3).all(|operation| {
-            let is_answered = |call: &Call| model::answer_cells(call) != Ok(Vec::new());
-            let mut of_this = calls.iter().filter(|call| call.operation == operation);
-            of_this.any(is_answered)
-        })
+        answered(script, &[1, 2, 3])
+    }),
+    ("has an answered reading and answered edges", |script| {
+        answered(script, &[4, 7])
     }),
     ("has a call with too few arguments", |script| {
-        model::whole_calls(script).iter().any(|call| {
-            (1..=3).contains(&call.operation) && model::answer_cells(call) == Ok(Vec::new())
-        })
+        let has_too_few = |call: &Call| {
+            HERE.iter().any(|(operation, needed)| {
+                call.operation == *operation && call.arguments.len() < *needed
+            })
+        };
+        model::whole_calls(script).iter().any(has_too_few)
     }),
     ("has an unknown operation", |script| {
         let calls = model::whole_calls(script);
@@ -52,6 +53,16 @@ const SCRIPT_KINDS: &[Kind<Vec<u8>>] = &[
             .any(|call| call.operation == 0 || call.operation >= 8)
     }),
 ];
+
+/// Whether the script has a call of each of these operations that has answer cells.
+fn answered(script: &[u8], operations: &[u64]) -> bool {
+    let calls = model::whole_calls(script);
+    operations.iter().all(|operation| {
+        let is_answered = |call: &Call| model::answer_cells(call) != Ok(Vec::new());
+        let mut of_this = calls.iter().filter(|call| call.operation == *operation);
+        of_this.any(is_answered)
+    })
+}
 
 /// The number of bytes after the last whole call.
 fn left_over(script: &[u8]) -> usize {
@@ -95,7 +106,7 @@ fn small_cell(random: &mut Random) -> u64 {
     match random.below(20) {
         0 => 8 + random.below(10),
         1 => random.any_number() >> random.below(64),
-        _ => random.below(4),
+        _ => random.pick(&[0, 1, 2, 3, 4, 7]),
     }
 }
 
@@ -113,12 +124,14 @@ fn calls(random: &mut Random) -> Vec<u8> {
 }
 
 fn any_call(random: &mut Random) -> Call {
-    match random.below(8) {
+    match random.below(10) {
         0 => Call::new(random.pick(&[0, 8, 99, u64::MAX]), &[3; 4]),
-        1 => Call::new(1 + random.below(3), &[1]),
+        1 => Call::new(random.pick(&HERE).0, &[1]),
         2 => write_call(random),
         3 => Call::write(random.below(3), 0, 0, 0, &[9; 3]),
         4 | 5 => judge_call(random),
+        6 => read_call(random),
+        7 => edges_call(random),
         _ => check_call(random),
     }
 }
