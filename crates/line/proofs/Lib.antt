@@ -6,3 +6,15 @@ pub mod WrittenList
 pub mod LineExamples
 pub mod Windows
 pub mod ReadExamples
+pub mod EdgeRuns
+pub mod GapMachine
+pub mod JudgedGaps
+pub mod SentGaps
+pub mod ReadBits
+pub mod ReadBack
+pub mod OnlyPages
+pub mod ReadCaptures
+pub mod SinceOpened
+pub mod ClockShift
+pub mod WriteThenRead
+pub mod ReadTheorem

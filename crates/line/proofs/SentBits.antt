@@ -15,7 +15,7 @@ use Rattle.page.proofs.BinaryNumbers.{digitsOf, digit-at}
 use Rattle.page.proofs.CheckTheorem.{checkList-length, checkList-digits}
 use Rattle.line.specs.Transitions.{sentBits}
 
-bits-length : (n w : ℕ) → length (bitsOf n w) ≡ n
+pub bits-length : (n w : ℕ) → length (bitsOf n w) ≡ n
 bits-length zero w = refl
 bits-length (suc n) w = ap suc (bits-length n (w / 2))
 
