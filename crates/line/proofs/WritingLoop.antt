@@ -13,11 +13,11 @@ use Rattle.line.specs.Transitions.{hasTransition, sentBits, positionsTo,
 use Rattle.line.proofs.EdgeCount.{count-more}
 use Rattle.page.proofs.BinaryNumbers.{bit}
 
-more-yes : (test : ℕ → Bool) (n : ℕ) → test (suc n) ≡ true → positionsTo test (suc n) ≡ positionsTo test n ++ (suc n ∷ [])
+pub more-yes : (test : ℕ → Bool) (n : ℕ) → test (suc n) ≡ true → positionsTo test (suc n) ≡ positionsTo test n ++ (suc n ∷ [])
 unfolding positionsTo
 more-yes test n h = rw h
 
-more-no : (test : ℕ → Bool) (n : ℕ) → test (suc n) ≡ false → positionsTo test (suc n) ≡ positionsTo test n
+pub more-no : (test : ℕ → Bool) (n : ℕ) → test (suc n) ≡ false → positionsTo test (suc n) ≡ positionsTo test n
 unfolding positionsTo
 more-no test n h = rw h
 

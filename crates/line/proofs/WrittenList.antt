@@ -34,16 +34,16 @@ module _ (m : LineMode) (list : List ℕ) (place w first : ℕ) where
         }
 
     -- A page has edgeCount, so a place past the end has no room.
-    some : 0 < edgeCount m w
+    pub has-edges : 0 < edgeCount m w
     unfolding edgeCount
-    some = let e = edge-count (m .slow) w fits in let l = least (m .slow) in omega arith
+    has-edges = let e = edge-count (m .slow) w fits in let l = least (m .slow) in omega arith
       where
         least : (t : Bool) → 81 ≤ cond t 86 81
         least true = omega arith
         least false = omega arith
 
     pub past : length list < place → Outcome (refused 12) list
-    past h = let e = some in short (omega arith)
+    past h = let e = has-edges in short (omega arith)
 
     -- The number of transitions, as the code has found it.
     module _ (count : ℕ) (counted : count ≡ length (transitions (m .slow) w)) where

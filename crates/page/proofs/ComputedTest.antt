@@ -11,11 +11,11 @@ abbrev pub everyBelow : ℕ → (ℕ → Bool) → Bool
 everyBelow zero test = true
 everyBelow (suc n) test = test n && everyBelow n test
 
-and-left : (a b : Bool) → (a && b) ≡ true → a ≡ true
+pub and-left : (a b : Bool) → (a && b) ≡ true → a ≡ true
 and-left true b h = refl
 and-left false b h = h
 
-and-right : (a b : Bool) → (a && b) ≡ true → b ≡ true
+pub and-right : (a b : Bool) → (a && b) ≡ true → b ≡ true
 and-right true b h = h
 and-right false b h = absurd (let z : _≡_ {A = ℕ} 0 1 = cc h in omega arith)
 

@@ -27,7 +27,7 @@ abbrev pub sumOf : List Bool → ℕ
 sumOf [] = 0
 sumOf (b ∷ bits) = bit b + 2 * sumOf bits
 
-sum-bits : (n w : ℕ) → sumOf (bitsOf n w) ≡ w % 2 ^ n
+pub sum-bits : (n w : ℕ) → sumOf (bitsOf n w) ≡ w % 2 ^ n
 sum-bits zero w = sym (mod-one w)
 sum-bits (suc n) w =
     ap₂ (λ (x y : ℕ). x + 2 * y) (odd-bit w) (sum-bits n (w / 2))
