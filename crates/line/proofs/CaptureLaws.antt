@@ -25,19 +25,19 @@ here : (tail : List ℕ) (i : ℕ) → i < length tail → drop i tail ≡ getD 
 here tail i h = drop-cons tail i 0 h ∙ ap (λ (k : ℕ). getD tail i 0 ∷ drop k tail) (sym (add-one i))
 
 module _ (m : LineMode) (r : Reader) (x : ℕ) (rest : List ℕ) (at : ℕ) where
-  opens-here : isOpen (edgeOf m r x .reader) ≡ true → opensAt m r (x ∷ rest) at ≡ at
+  pub opens-here : isOpen (edgeOf m r x .reader) ≡ true → opensAt m r (x ∷ rest) at ≡ at
   unfolding opensAt
   opens-here h = rw h
 
-  opens-later : isOpen (edgeOf m r x .reader) ≡ false → opensAt m r (x ∷ rest) at ≡ opensAt m (edgeOf m r x .reader) rest (at + 1)
+  pub opens-later : isOpen (edgeOf m r x .reader) ≡ false → opensAt m r (x ∷ rest) at ≡ opensAt m (edgeOf m r x .reader) rest (at + 1)
   unfolding opensAt
   opens-later h = rw h
 
-  says-nothing : eqb (edgeOf m r x .says .kind) 0 ≡ true → attemptOf m r (x ∷ rest) at ≡ attemptOf m (edgeOf m r x .reader) rest (at + 1)
+  pub says-nothing : eqb (edgeOf m r x .says .kind) 0 ≡ true → attemptOf m r (x ∷ rest) at ≡ attemptOf m (edgeOf m r x .reader) rest (at + 1)
   unfolding attemptOf
   says-nothing h = rw h
 
-  says-something : eqb (edgeOf m r x .says .kind) 0 ≡ false
+  pub says-something : eqb (edgeOf m r x .says .kind) 0 ≡ false
       → attemptOf m r (x ∷ rest) at
       ≡ ends (edgeOf m r x .says) (cond (isOpen (edgeOf m r x .reader)) at (opensAt m (edgeOf m r x .reader) rest (at + 1)))
   unfolding attemptOf

@@ -21,3 +21,4 @@ pub mod SinceOpened
 pub mod ClockShift
 pub mod WriteThenRead
 pub mod ReadTheorem
+pub mod Walk
