@@ -5,7 +5,8 @@
  * Every call answers with one 64-bit number: the top byte is the kind of the answer and the other 56
  * bits are its value. maststep_kind and maststep_value take an answer apart.
  *
- * The calls keep nothing between them and may run in several threads at once, on lists that do not overlap.
+ * The calls keep nothing between them and may run in several threads at once, on lists that do not
+ * overlap or that none of them writes.
  */
 #ifndef MASTSTEP_H
 #define MASTSTEP_H
@@ -20,9 +21,13 @@ extern "C" {
 /* The kinds of answer. 1 to 27 are refusals; a refusal's value is 0. */
 enum {
     MASTSTEP_NOTHING = 0,   /* no answer; the value is 0 */
+    MASTSTEP_GAP = 1,       /* an attempt ended: a gap was not what the pattern of a page asks there */
+    MASTSTEP_CUT = 2,       /* an attempt ended: a quiet gap, or the capture's end, came before its last transition */
+    MASTSTEP_CHECK = 3,     /* an attempt ended: it had all transitions, but the check bits do not agree */
     MASTSTEP_ROOM = 12,     /* refused: the place is past the end, or too few entries follow it */
     MASTSTEP_WIDE = 13,     /* refused: the word is 2^48 or more */
     MASTSTEP_MODE = 14,     /* refused: the mode is neither 0 nor 1 */
+    MASTSTEP_PAGE = 0x80,   /* a good page was read; the value is its word */
     MASTSTEP_NUMBER = 0x84, /* the value is a number: check bits, a count of readings, positions of a gap */
     MASTSTEP_QUIET = 0x85,  /* the gap is quiet; the value is 0 */
     MASTSTEP_UNFIT = 0x86   /* the gap is unfit; the value is 0 */
@@ -78,6 +83,39 @@ uint64_t maststep_judge(uint32_t mode, uint32_t gap);
  * nothing is read or written through list, and it may be a null pointer.
  */
 uint64_t maststep_write(uint32_t *list, size_t length, size_t place, uint32_t mode, uint64_t word, uint32_t first);
+
+/*
+ * Reads the first attempt of a capture, from the reading at place on. The list is the capture: the clock
+ * at each transition of the line, in ns modulo 2^32, in the order in which they came. The reading at place
+ * counts as a page's first transition, whatever stands before it. Answers how the attempt ended:
+ *   MASTSTEP_PAGE (0x80)  a good page, with its word;
+ *   MASTSTEP_GAP (1)      a gap was not what the pattern asks, or was unfit;
+ *   MASTSTEP_CUT (2)      a quiet gap came before the last transition, or the capture ended, which counts as quiet;
+ *   MASTSTEP_CHECK (3)    all transitions were there, but the check bits do not agree;
+ *   MASTSTEP_NOTHING (0)  there was no attempt, since place == length.
+ *
+ * Leaves at *next the place where the next attempt opens, or the length if none does (so at place ==
+ * length). After MASTSTEP_CUT that is the transition that came after the quiet gap; after the others, the
+ * first later one that follows a quiet gap: all between are dropped.
+ *
+ * Refused, in this order, and *next is then left as it was:
+ *   MASTSTEP_MODE (14)  the mode is neither 0 nor 1;
+ *   MASTSTEP_ROOM (12)  the place is past the end. Any place is taken, SIZE_MAX too.
+ *
+ * To read all attempts of a capture in a mode that is 0 or 1, start at place 0 and go from next place to
+ * next place. Each is past the one before, so that this ends:
+ *
+ *     size_t place = 0;
+ *     while (place < length) {
+ *         uint64_t answer = maststep_read(list, length, place, mode, &place);
+ *         ...
+ *     }
+ *
+ * The caller sees to it that list points to length readings in a row, aligned as uint32_t is, and next to
+ * a size_t that lies outside of them, and that nothing else writes the readings, or reads or writes
+ * *next, during the call. With length 0 nothing is read through list, and it may be a null pointer.
+ */
+uint64_t maststep_read(const uint32_t *list, size_t length, size_t place, uint32_t mode, size_t *next);
 
 #ifdef __cplusplus
 }

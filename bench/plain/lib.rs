@@ -1,32 +1,44 @@
-//! The two measured calls in plain Rust: the same algorithm as maststep's, with nothing proved, for
-//! the bench to compare with. Safe Rust but for the C interface at the end.
+//! The measured calls in plain Rust: the same algorithms as maststep's, with nothing proved, for the
+//! bench to compare with. Safe Rust but for the C interface at the end.
 #![no_std]
 
 /// The refusals, by the scope's numbers.
 #[derive(Clone, Copy)]
 enum Refusal {
+    Gap = 1,
+    Cut = 2,
+    Check = 3,
     Room = 12,
     Wide = 13,
     Mode = 14,
 }
 
+/// The kind of an answer that is a page.
+const PAGE: u64 = 0x80;
+
 /// The kind of an answer that is a number.
 const NUMBER: u64 = 0x84;
 
-/// The numbers of a line mode that writing needs.
+/// The numbers of a line mode.
 struct Line {
     spacing: u32,
+    tolerance: u32,
+    quiet: u32,
     /// Bit p is one where the delimiter has a transition at position p.
     delimiter: u32,
 }
 
 const HSM: Line = Line {
     spacing: 30,
+    tolerance: 9,
+    quiet: 130,
     delimiter: mask(&[1, 2, 3, 5, 7, 8, 12, 13, 14, 15, 19, 21, 24, 25, 26]),
 };
 
 const LSM: Line = Line {
     spacing: 800,
+    tolerance: 240,
+    quiet: 3441,
     delimiter: mask(&[1, 2, 3, 4, 5, 6, 7, 8, 9, 11, 13, 15, 16, 18, 19, 20, 22, 23, 24, 26]),
 };
 
@@ -41,6 +53,14 @@ const fn mask(positions: &[u32]) -> u32 {
     mask
 }
 
+fn line(mode: u32) -> Result<&'static Line, Refusal> {
+    match mode {
+        0 => Ok(&HSM),
+        1 => Ok(&LSM),
+        _ => Err(Refusal::Mode),
+    }
+}
+
 fn narrow(word: u64) -> Result<u64, Refusal> {
     if word < 1 << 48 {
         Ok(word)
@@ -49,15 +69,20 @@ fn narrow(word: u64) -> Result<u64, Refusal> {
     }
 }
 
-/// The check bits of a word of 48 bits, bit by bit, D0 first.
-fn check_bits(word: u64) -> u32 {
+/// The remainder of the first bits of a number, lowest first, bit by bit.
+fn remainder(bits: u64, count: u32) -> u32 {
     let mut reg: u32 = 0;
-    for i in 0..48 {
-        let d = (word >> i) as u32 & 1;
+    for i in 0..count {
+        let d = (bits >> i) as u32 & 1;
         let x = (reg << 1) ^ (d << 16);
         reg = if x & 0x1_0000 != 0 { x ^ 0x1_8005 } else { x };
     }
     reg
+}
+
+/// The check bits of a word of 48 bits, D0 first.
+fn check_bits(word: u64) -> u32 {
+    remainder(word, 48)
 }
 
 fn check(word: u64) -> Result<u64, Refusal> {
@@ -66,11 +91,7 @@ fn check(word: u64) -> Result<u64, Refusal> {
 
 /// Writes the readings of a page into the list from a place on, and tells their number.
 fn write(list: &mut [u32], place: usize, mode: u32, word: u64, first: u32) -> Result<u64, Refusal> {
-    let line = match mode {
-        0 => HSM,
-        1 => LSM,
-        _ => return Err(Refusal::Mode),
-    };
+    let line = line(mode)?;
     let word = narrow(word)?;
     // The 64 bits in the order of the line, the first to be sent lowest: D0 to D47, then S15 to S0.
     let bits = word | u64::from(check_bits(word).reverse_bits() >> 16) << 48;
@@ -103,6 +124,151 @@ fn write(list: &mut [u32], place: usize, mode: u32, word: u64, first: u32) -> Re
     Ok(written as u64)
 }
 
+/// What a gap between two edges is.
+enum Gap {
+    Positions(u32),
+    Quiet,
+    Unfit,
+}
+
+impl Line {
+    fn judge(&self, gap: u32) -> Gap {
+        for k in 1..5 {
+            let centre = k * self.spacing;
+            if (centre - self.tolerance..=centre + self.tolerance).contains(&gap) {
+                return Gap::Positions(k);
+            }
+        }
+        if gap >= self.quiet {
+            Gap::Quiet
+        } else {
+            Gap::Unfit
+        }
+    }
+
+    /// Whether the pattern of a page allows an edge k positions after the one at this position.
+    fn asks(&self, at: u32, k: u32) -> bool {
+        match at {
+            // Of the delimiter and the first clock, just the two edges may stand there.
+            0..=26 => (self.delimiter | 1 << 27) >> at & ((2 << k) - 1) == 1 << k | 1,
+            27..=154 if at % 2 == 0 => k == 1,
+            27..=154 => k <= 2,
+            155 => k == 2,
+            _ => false,
+        }
+    }
+}
+
+/// What a reader holds between two edges. Of an open attempt it knows the position and the reading of
+/// the last edge and the bits so far, the newest the highest.
+#[derive(Clone, Copy)]
+enum Reader {
+    Fresh,
+    Open { at: u32, last: u32, bits: u64 },
+    Dropping { last: u32 },
+}
+
+/// How an attempt ended: a page's word, or why it is none.
+type Outcome = Result<u64, Refusal>;
+
+impl Reader {
+    fn opened(reading: u32) -> Reader {
+        Reader::Open {
+            at: 1,
+            last: reading,
+            bits: 0,
+        }
+    }
+
+    fn is_open(self) -> bool {
+        matches!(self, Reader::Open { .. })
+    }
+
+    /// Takes an edge; tells the outcome of the attempt that it ended, if it ended one.
+    fn edge(&mut self, line: &Line, reading: u32) -> Option<Outcome> {
+        match *self {
+            Reader::Fresh => {
+                *self = Reader::opened(reading);
+                None
+            }
+            Reader::Open { at, last, bits } => match line.judge(reading.wrapping_sub(last)) {
+                Gap::Positions(k) if line.asks(at, k) => {
+                    let is_clock = (27..=153).contains(&at) && at % 2 == 1;
+                    let bits = match k {
+                        _ if !is_clock => bits,
+                        1 => bits >> 1 | 1 << 63,
+                        _ => bits >> 1,
+                    };
+                    self.arrive(at + k, bits, reading)
+                }
+                Gap::Quiet => {
+                    *self = Reader::opened(reading);
+                    Some(Err(Refusal::Cut))
+                }
+                _ => {
+                    *self = Reader::Dropping { last: reading };
+                    Some(Err(Refusal::Gap))
+                }
+            },
+            Reader::Dropping { last } => {
+                *self = match line.judge(reading.wrapping_sub(last)) {
+                    Gap::Quiet => Reader::opened(reading),
+                    _ => Reader::Dropping { last: reading },
+                };
+                None
+            }
+        }
+    }
+
+    /// An edge where the pattern asked for one.
+    fn arrive(&mut self, at: u32, bits: u64, reading: u32) -> Option<Outcome> {
+        if at < 157 {
+            *self = Reader::Open {
+                at,
+                last: reading,
+                bits,
+            };
+            return None;
+        }
+        *self = Reader::Dropping { last: reading };
+        // A word and its check bits, taken together, leave no remainder.
+        Some(if remainder(bits, 64) == 0 {
+            Ok(bits & ((1 << 48) - 1))
+        } else {
+            Err(Refusal::Check)
+        })
+    }
+}
+
+/// The first attempt from a place of a capture on, or nothing at its end, and where the next one opens.
+fn read(capture: &[u32], place: usize, mode: u32) -> Result<(Option<Outcome>, usize), Refusal> {
+    let line = line(mode)?;
+    let tail = capture.get(place..).ok_or(Refusal::Room)?;
+    if tail.is_empty() {
+        return Ok((None, place));
+    }
+    let mut reader = Reader::Fresh;
+    let ended = tail
+        .iter()
+        .enumerate()
+        .find_map(|(i, &reading)| Some((i, reader.edge(line, reading)?)));
+    // The end of the capture counts as quiet.
+    let (i, outcome) = match ended {
+        Some(ended) => ended,
+        None => return Ok((Some(Err(Refusal::Cut)), capture.len())),
+    };
+    if reader.is_open() {
+        return Ok((Some(outcome), place + i));
+    }
+    // Edges are dropped until one follows a quiet gap.
+    let is_quiet = |pair: &[u32]| matches!(line.judge(pair[1].wrapping_sub(pair[0])), Gap::Quiet);
+    let next = match tail[i..].windows(2).position(is_quiet) {
+        Some(dropped) => place + i + 1 + dropped,
+        None => capture.len(),
+    };
+    Ok((Some(outcome), next))
+}
+
 /// An answer as one number: the kind in the top byte, the value below it.
 fn packed(answer: Result<u64, Refusal>) -> u64 {
     match answer {
@@ -132,6 +298,31 @@ pub unsafe extern "C" fn plain_write(
 ) -> u64 {
     let list = core::slice::from_raw_parts_mut(list, length);
     packed(write(list, place, mode, word, first))
+}
+
+/// As `maststep_read`.
+///
+/// # Safety
+/// `list` points to `length` entries that nothing writes during the call, and `next` to a place of its own.
+#[no_mangle]
+pub unsafe extern "C" fn plain_read(
+    list: *const u32,
+    length: usize,
+    place: usize,
+    mode: u32,
+    next: *mut usize,
+) -> u64 {
+    match read(core::slice::from_raw_parts(list, length), place, mode) {
+        Ok((outcome, opens)) => {
+            *next = opens;
+            match outcome {
+                None => 0,
+                Some(Ok(word)) => PAGE << 56 | word,
+                Some(Err(refusal)) => packed(Err(refusal)),
+            }
+        }
+        Err(refusal) => packed(Err(refusal)),
+    }
 }
 
 #[panic_handler]

@@ -6,6 +6,7 @@
  * last line is 'N passed, M failed', and the exit status is 1 where M is not 0.
  */
 #include <stdio.h>
+#include <string.h>
 
 #include "maststep.h"
 
@@ -42,9 +43,13 @@ static void test_header(void)
     same("kind of nothing", maststep_kind(0), MASTSTEP_NOTHING);
     same("value of a refusal", maststep_value(packed(13, 0)), 0);
     same("kind of the largest answer", maststep_kind(UINT64_MAX), 0xff);
+    same("Gap is 1", MASTSTEP_GAP, 1);
+    same("Cut is 2", MASTSTEP_CUT, 2);
+    same("Check is 3", MASTSTEP_CHECK, 3);
     same("Room is 12", MASTSTEP_ROOM, 12);
     same("Wide is 13", MASTSTEP_WIDE, 13);
     same("Mode is 14", MASTSTEP_MODE, 14);
+    same("a page is 80", MASTSTEP_PAGE, 0x80);
     same("a number is 84", MASTSTEP_NUMBER, 0x84);
     same("quiet is 85", MASTSTEP_QUIET, 0x85);
     same("unfit is 86", MASTSTEP_UNFIT, 0x86);
@@ -145,21 +150,17 @@ static const unsigned DELIMITER[2][21] = {
 };
 
 /*
- * Writes a page and compares every reading with the positions that the scope names: the delimiter, the
- * odd positions 27-153, 155, 157, and the even positions given, which are those of the word's and its
- * check bits' ones. ones ends in 0.
+ * Draws a page as the scope names its positions, from first on at nominal spacing: the delimiter, the odd
+ * positions 27-153, 155, 157, and the positions given, which are the even ones of the word's and its check
+ * bits' ones, or any others that a damaged page has. ones ends in 0. Tells the number of readings.
  */
-static void page(const char *what, uint32_t mode, uint64_t word, uint32_t first, const unsigned *ones, uint64_t count)
+static size_t draw(uint32_t *readings, uint32_t mode, uint32_t first, const unsigned *ones)
 {
     const uint32_t spacing = mode == 0 ? 30 : 800;
     const unsigned *delimiter = DELIMITER[mode];
-    uint64_t readings = 0, wrong = 0;
+    size_t count = 0;
     unsigned position;
-    char name[96];
 
-    guard_all();
-    snprintf(name, sizeof name, "%s: answer", what);
-    same(name, maststep_write(list, ENTRIES, PLACE, mode, word, first), packed(0x84, count));
     for (position = 1; position <= 157; position++) {
         int stands = 0;
 
@@ -172,11 +173,30 @@ static void page(const char *what, uint32_t mode, uint64_t word, uint32_t first,
             stands = 1;
             ones++;
         }
-        if (stands) {
-            if (list[PLACE + readings] != (uint32_t)(first + (position - 1) * spacing)) wrong++;
-            readings++;
-        }
+        if (stands) readings[count++] = (uint32_t)(first + (position - 1) * spacing);
     }
+    return count;
+}
+
+static const unsigned NONE[] = {0};
+/* D47 stands at 122; 8005 hex is S15, S2 and S0, at 124, 150 and 154, the highest first. */
+static const unsigned OF_D47[] = {122, 124, 150, 154, 0};
+/* D46 stands at 120; 800F hex is S15 and S3 to S0. */
+static const unsigned OF_D46[] = {120, 124, 148, 150, 152, 154, 0};
+
+/* Writes a page and compares every reading with the page that is drawn with these ones. */
+static void page(const char *what, uint32_t mode, uint64_t word, uint32_t first, const unsigned *ones, uint64_t count)
+{
+    uint32_t drawn[157];
+    size_t readings = draw(drawn, mode, first, ones), i;
+    uint64_t wrong = 0;
+    char name[96];
+
+    guard_all();
+    snprintf(name, sizeof name, "%s: answer", what);
+    same(name, maststep_write(list, ENTRIES, PLACE, mode, word, first), packed(0x84, count));
+    for (i = 0; i < readings; i++)
+        if (list[PLACE + i] != drawn[i]) wrong++;
     snprintf(name, sizeof name, "%s: readings expected", what);
     same(name, readings, count);
     snprintf(name, sizeof name, "%s: readings that are wrong", what);
@@ -187,32 +207,26 @@ static void page(const char *what, uint32_t mode, uint64_t word, uint32_t first,
 
 static void test_pages(void)
 {
-    static const unsigned none[] = {0};
-    /* D47 stands at 122; 8005 hex is S15, S2 and S0, at 124, 150 and 154, the highest first. */
-    static const unsigned of_d47[] = {122, 124, 150, 154, 0};
-    /* D46 stands at 120; 800F hex is S15 and S3 to S0. */
-    static const unsigned of_d46[] = {120, 124, 148, 150, 152, 154, 0};
-
-    page("P6 zero page, HSM", 0, 0, 1000, none, 81);
+    page("P6 zero page, HSM", 0, 0, 1000, NONE, 81);
     same("P6 first reading", list[PLACE], 1000);
     same("P6 last reading", list[PLACE + 80], 5680);
     same("P6 time from first to last", (uint32_t)(list[PLACE + 80] - list[PLACE]), 4680);
 
-    page("P6 zero page, HSM, over 2^32", 0, 0, UINT32_C(4294967290), none, 81);
+    page("P6 zero page, HSM, over 2^32", 0, 0, UINT32_C(4294967290), NONE, 81);
     same("P6 over 2^32: first reading", list[PLACE], UINT32_C(4294967290));
     same("P6 over 2^32: second reading", list[PLACE + 1], 24);
     same("P6 over 2^32: last reading", list[PLACE + 80], 4674);
     same("P6 over 2^32: time from first to last", (uint32_t)(list[PLACE + 80] - list[PLACE]), 4680);
 
-    page("P7 zero page, LSM", 1, 0, 0, none, 86);
+    page("P7 zero page, LSM", 1, 0, 0, NONE, 86);
     same("P7 time from first to last", (uint32_t)(list[PLACE + 85] - list[PLACE]), 124800);
-    page("P7 zero page, LSM, over 2^32", 1, 0, UINT32_MAX - 50000, none, 86);
+    page("P7 zero page, LSM, over 2^32", 1, 0, UINT32_MAX - 50000, NONE, 86);
     same("P7 over 2^32: time from first to last", (uint32_t)(list[PLACE + 85] - list[PLACE]), 124800);
 
-    page("P8 2^47, HSM", 0, UINT64_C(1) << 47, 77, of_d47, 85);
-    page("2^47, LSM", 1, UINT64_C(1) << 47, 77, of_d47, 90);
-    page("2^46, HSM", 0, UINT64_C(1) << 46, 0, of_d46, 87);
-    page("2^46, LSM", 1, UINT64_C(1) << 46, UINT32_MAX, of_d46, 92);
+    page("P8 2^47, HSM", 0, UINT64_C(1) << 47, 77, OF_D47, 85);
+    page("2^47, LSM", 1, UINT64_C(1) << 47, 77, OF_D47, 90);
+    page("2^46, HSM", 0, UINT64_C(1) << 46, 0, OF_D46, 87);
+    page("2^46, LSM", 1, UINT64_C(1) << 46, UINT32_MAX, OF_D46, 92);
 }
 
 /* Where in the list a page may stand, and the widest word. */
@@ -288,6 +302,338 @@ static void test_refusals(void)
     refuses("mode wrong, length 0", 14, 0, 0, UINT32_MAX, 0);
 }
 
+/* ---- reading */
+
+enum { READINGS = 400, UNTOUCHED = 12345 };
+
+/* What is read below, but for the written list. */
+static uint32_t capture[READINGS];
+
+/* Draws a page into the capture from a place on, and tells the place after it. */
+static size_t draw_at(size_t place, uint32_t mode, uint32_t first, const unsigned *ones)
+{
+    return place + draw(capture + place, mode, first, ones);
+}
+
+/* Takes one reading out of the first so many of the capture, and tells how many are left. */
+static size_t take_out(size_t i, size_t length)
+{
+    memmove(capture + i, capture + i + 1, (length - i - 1) * sizeof capture[0]);
+    return length - 1;
+}
+
+/* Puts a reading into the capture, so many ns after the one before it, and tells the place after it. */
+static size_t put_after(size_t place, uint32_t gap)
+{
+    capture[place] = capture[place - 1] + gap;
+    return place + 1;
+}
+
+/* One call: what it answers, what it leaves at the next place, and that it leaves the readings as they were. */
+static void reads(const char *what, const uint32_t *readings, size_t length, size_t place, uint32_t mode, uint64_t answer, size_t next)
+{
+    static uint32_t before[READINGS];
+    size_t left = UNTOUCHED;
+    char name[96];
+
+    if (length > 0) memcpy(before, readings, length * sizeof before[0]);
+    same(what, maststep_read(readings, length, place, mode, &left), answer);
+    snprintf(name, sizeof name, "%s: next", what);
+    same(name, left, next);
+    snprintf(name, sizeof name, "%s: readings altered", what);
+    same(name, length > 0 && memcmp(before, readings, length * sizeof before[0]) != 0, 0);
+}
+
+/* Each page that is written is read again, alone and among other entries. */
+static void test_read_back(void)
+{
+    static const uint64_t words[] = {
+        0, 1, 2, UINT64_C(1) << 46, UINT64_C(1) << 47, 0x850001, 0xa90001, UINT64_C(0x123456789abc),
+        UINT64_C(0x555555555555), UINT64_C(0xaaaaaaaaaaaa), UINT64_C(0xffffffffffff)
+    };
+    static const uint32_t firsts[] = {0, 1000, UINT32_C(0x80000000), UINT32_C(4294967290), UINT32_MAX - 1000, UINT32_MAX};
+    size_t w, f;
+    uint32_t mode;
+
+    for (w = 0; w < sizeof words / sizeof words[0]; w++) {
+        for (f = 0; f < sizeof firsts / sizeof firsts[0]; f++) {
+            for (mode = 0; mode < 2; mode++) {
+                uint64_t good = packed(0x80, words[w]);
+                size_t count;
+                char what[96];
+
+                guard_all();
+                count = (size_t)maststep_value(maststep_write(list, ENTRIES, PLACE, mode, words[w], firsts[f]));
+                snprintf(what, sizeof what, "mode %u word %012llx first %lu", (unsigned)mode, (unsigned long long)words[w],
+                         (unsigned long)firsts[f]);
+                reads(what, list + PLACE, count, 0, mode, good, count);
+                /* The entries around the page are 2 ns apart, far from its own readings. */
+                reads(what, list, PLACE + count, PLACE, mode, good, PLACE + count);
+                reads(what, list, ENTRIES, PLACE, mode, good, PLACE + count);
+                reads(what, list, ENTRIES, 0, mode, packed(1, 0), PLACE);
+                reads(what, list, ENTRIES, PLACE + count, mode, packed(1, 0), ENTRIES);
+            }
+        }
+    }
+}
+
+/* The end of the capture counts as quiet, and a reader is fresh at whatever place it starts. */
+static void test_ends(void)
+{
+    uint32_t mode;
+
+    for (mode = 0; mode < 2; mode++) {
+        size_t count = draw_at(0, mode, UINT32_MAX - 2000, OF_D47), length;
+        uint64_t wrong = 0;
+
+        reads("the page is the capture", capture, count, 0, mode, packed(0x80, UINT64_C(1) << 47), count);
+        reads("the page less its last edge", capture, count - 1, 0, mode, packed(2, 0), count - 1);
+        reads("one reading", capture, 1, 0, mode, packed(2, 0), 1);
+        reads("from the last reading on", capture, count, count - 1, mode, packed(2, 0), count);
+        for (length = 1; length < count; length++) {
+            size_t next = UNTOUCHED;
+
+            if (maststep_read(capture, length, 0, mode, &next) != packed(2, 0) || next != length) wrong++;
+        }
+        same("beginnings of a page that are not Cut", wrong, 0);
+    }
+    draw_at(0, 0, 0, NONE);
+    /* Positions 2 and 3 pass for 1 and 2, then 5 for 4 does not. */
+    reads("from a page's second edge on", capture, 81, 1, 0, packed(1, 0), 81);
+    reads("an HSM page in LSM", capture, 81, 0, 1, packed(1, 0), 81);
+    draw_at(0, 1, 0, NONE);
+    reads("an LSM page in HSM", capture, 86, 0, 0, packed(2, 0), 1);
+}
+
+struct bent {
+    uint32_t mode;
+    size_t entry; /* the gap before this reading is another; all later readings move with it */
+    uint32_t gap;
+    uint64_t kind;
+    size_t next;
+};
+
+/*
+ * The zero page with one gap bent. In HSM the gaps before entries 1, 3, 12 and 6 are one to four positions
+ * of the delimiter, that before 16 is the first bit's, and 80 is the last; in LSM 1 and 9 are one and two
+ * positions, 21 is the first bit's, and 85 is the last.
+ */
+static const struct bent BENT[] = {
+    {0, 1, 21, 0x80, 81}, {0, 1, 39, 0x80, 81}, {0, 1, 20, 1, 81}, {0, 1, 40, 1, 81},
+    {0, 3, 51, 0x80, 81}, {0, 3, 69, 0x80, 81}, {0, 3, 50, 1, 81}, {0, 3, 70, 1, 81},
+    {0, 12, 81, 0x80, 81}, {0, 12, 99, 0x80, 81}, {0, 12, 80, 1, 81}, {0, 12, 100, 1, 81},
+    {0, 6, 111, 0x80, 81}, {0, 6, 129, 0x80, 81}, {0, 6, 110, 1, 81}, {0, 6, 130, 2, 6},
+    {0, 16, 51, 0x80, 81}, {0, 16, 69, 0x80, 81}, {0, 16, 50, 1, 81}, {0, 16, 70, 1, 81},
+    {0, 80, 51, 0x80, 81}, {0, 80, 69, 0x80, 81}, {0, 80, 50, 1, 81}, {0, 80, 70, 1, 81},
+    /* Right in itself, but not there. */
+    {0, 1, 60, 1, 81}, {0, 3, 30, 1, 81}, {0, 16, 90, 1, 81}, {0, 80, 30, 1, 81}, {0, 80, 120, 1, 81},
+    /* The quiet limit, and one less. */
+    {0, 1, 129, 1, 81}, {0, 1, 130, 2, 1}, {0, 16, 129, 1, 81}, {0, 16, 130, 2, 16}, {0, 80, 129, 1, 81}, {0, 80, 130, 2, 80},
+    /* Two readings alike, and a clock that went back. */
+    {0, 1, 0, 1, 81}, {0, 80, 0, 1, 81}, {0, 1, UINT32_MAX, 2, 1}, {0, 40, UINT32_MAX - 29, 2, 40},
+
+    {1, 1, 560, 0x80, 86}, {1, 1, 1040, 0x80, 86}, {1, 1, 559, 1, 86}, {1, 1, 1041, 1, 86},
+    {1, 9, 1360, 0x80, 86}, {1, 9, 1840, 0x80, 86}, {1, 9, 1359, 1, 86}, {1, 9, 1841, 1, 86},
+    {1, 21, 1360, 0x80, 86}, {1, 21, 1840, 0x80, 86}, {1, 21, 1359, 1, 86}, {1, 21, 1841, 1, 86},
+    {1, 85, 1360, 0x80, 86}, {1, 85, 1840, 0x80, 86}, {1, 85, 1359, 1, 86}, {1, 85, 1841, 1, 86},
+    {1, 1, 1600, 1, 86}, {1, 9, 800, 1, 86}, {1, 21, 2400, 1, 86}, {1, 85, 800, 1, 86}, {1, 85, 3200, 1, 86},
+    {1, 1, 3440, 1, 86}, {1, 1, 3441, 2, 1}, {1, 21, 3440, 1, 86}, {1, 21, 3441, 2, 21}, {1, 85, 3440, 1, 86}, {1, 85, 3441, 2, 85},
+    {1, 1, 0, 1, 86}, {1, 85, 0, 1, 86}, {1, 1, UINT32_MAX, 2, 1}, {1, 40, UINT32_MAX - 799, 2, 40}
+};
+
+static void test_gaps(void)
+{
+    size_t i, j;
+
+    for (i = 0; i < sizeof BENT / sizeof BENT[0]; i++) {
+        const struct bent *b = &BENT[i];
+        size_t count = draw_at(0, b->mode, UINT32_MAX - 500, NONE);
+        uint32_t later = b->gap - (capture[b->entry] - capture[b->entry - 1]);
+        char what[96];
+
+        for (j = b->entry; j < count; j++) capture[j] += later;
+        snprintf(what, sizeof what, "mode %u, gap %lu before entry %u", (unsigned)b->mode, (unsigned long)b->gap, (unsigned)b->entry);
+        reads(what, capture, count, 0, b->mode, packed(b->kind, 0), b->next);
+    }
+}
+
+/* Pages with an edge too many or too few. A bit more or less is Check; where the pattern breaks it is Gap. */
+static void test_damaged(void)
+{
+    static const unsigned d0_added[] = {28, 0};
+    static const unsigned d1_added[] = {30, 0};
+    static const unsigned d0_d1_added[] = {28, 30, 0};
+    static const unsigned s0_added[] = {154, 0};
+    static const unsigned d47_missing[] = {124, 150, 154, 0};
+    static const unsigned s15_missing[] = {122, 150, 154, 0};
+    static const unsigned s0_missing[] = {122, 124, 150, 0};
+    static const unsigned d47_as_d46[] = {120, 124, 150, 154, 0};
+    static const unsigned at_156[] = {156, 0};
+    static const unsigned at_10[] = {10, 0};
+    uint32_t mode;
+
+    for (mode = 0; mode < 2; mode++) {
+        const size_t clock = mode == 0 ? 15 : 20; /* the entry of position 27 */
+        size_t count;
+
+        count = draw_at(0, mode, 5, d0_added);
+        reads("D0's edge added", capture, count, 0, mode, packed(3, 0), count);
+        count = draw_at(0, mode, 5, s0_added);
+        reads("S0's edge added", capture, count, 0, mode, packed(3, 0), count);
+        count = draw_at(0, mode, 5, d47_missing);
+        reads("D47's edge missing", capture, count, 0, mode, packed(3, 0), count);
+        count = draw_at(0, mode, 5, s15_missing);
+        reads("S15's edge missing", capture, count, 0, mode, packed(3, 0), count);
+        count = draw_at(0, mode, 5, s0_missing);
+        reads("S0's edge missing", capture, count, 0, mode, packed(3, 0), count);
+        count = draw_at(0, mode, 5, d47_as_d46);
+        reads("one edge in place of another", capture, count, 0, mode, packed(3, 0), count);
+        count = draw_at(0, mode, 5, at_156);
+        reads("an edge at 156", capture, count, 0, mode, packed(1, 0), count);
+        count = draw_at(0, mode, 5, at_10);
+        reads("an edge at 10, in the delimiter", capture, count, 0, mode, packed(1, 0), count);
+        count = take_out(2, draw_at(0, mode, 5, NONE));
+        reads("an edge of the delimiter missing", capture, count, 0, mode, packed(1, 0), count);
+        count = take_out(clock + 1, draw_at(0, mode, 5, NONE));
+        reads("a clock missing between two zeros", capture, count, 0, mode, packed(1, 0), count);
+        count = take_out(clock + 2, draw_at(0, mode, 5, d0_added));
+        reads("a clock missing after a one", capture, count, 0, mode, packed(1, 0), count);
+        count = take_out(clock + 1, draw_at(0, mode, 5, d1_added));
+        reads("a clock missing before a one", capture, count, 0, mode, packed(1, 0), count);
+        count = take_out(clock + 2, draw_at(0, mode, 5, d0_d1_added));
+        reads("a clock missing between two ones", capture, count, 0, mode, packed(1, 0), count);
+        count = take_out(clock + 64, draw_at(0, mode, 5, NONE));
+        reads("the edge at 155 missing", capture, count, 0, mode, packed(1, 0), count);
+    }
+}
+
+/* After Gap, Check or a good page, edges are dropped until one follows a quiet gap after the edge just before it. */
+static void test_dropping(void)
+{
+    static const uint32_t spacing[2] = {30, 800}, quiet[2] = {130, 3441};
+    static const unsigned damaged[] = {28, 0};
+    uint32_t mode;
+
+    for (mode = 0; mode < 2; mode++) {
+        const uint32_t limit = quiet[mode];
+        size_t i, length = 1;
+
+        capture[0] = UINT32_MAX;
+        length = put_after(length, 3 * spacing[mode]); /* Gap */
+        for (i = 0; i < 20; i++) length = put_after(length, limit - 1);
+        for (i = 0; i < 20; i++) length = put_after(length, spacing[mode]);
+        reads("nothing but dropped edges", capture, length, 0, mode, packed(1, 0), length);
+        length = put_after(length, limit);
+        reads("an edge at the quiet limit", capture, length, 0, mode, packed(1, 0), length - 1);
+        reads("the edge that opens", capture, length, length - 1, mode, packed(2, 0), length);
+        length = put_after(length, limit);
+        reads("the first such edge", capture, length, 0, mode, packed(1, 0), length - 2);
+        reads("then Cut by the next", capture, length, length - 2, mode, packed(2, 0), length - 1);
+        length = put_after(length, 0);
+        reads("a gap of 0 after it opened", capture, length, length - 2, mode, packed(1, 0), length);
+
+        length = draw_at(0, mode, 0, OF_D46);
+        for (i = 0; i < 20; i++) length = put_after(length, limit - 1);
+        reads("edges right after a page", capture, length, 0, mode, packed(0x80, UINT64_C(1) << 46), length);
+        length = put_after(length, limit);
+        reads("edges after a page, then quiet", capture, length, 0, mode, packed(0x80, UINT64_C(1) << 46), length - 1);
+
+        length = draw_at(0, mode, 0, damaged);
+        for (i = 0; i < 20; i++) length = put_after(length, limit - 1);
+        reads("edges right after Check", capture, length, 0, mode, packed(3, 0), length);
+        length = put_after(length, UINT32_MAX);
+        reads("edges after Check, then quiet", capture, length, 0, mode, packed(3, 0), length - 1);
+    }
+}
+
+/* Walks a capture as the header shows it, and compares the answers: these, one for each attempt. */
+static void walks(const char *what, size_t length, uint32_t mode, const uint64_t *answers, size_t attempts)
+{
+    size_t place = 0, number = 0;
+    char name[96];
+
+    while (place < length) {
+        size_t next = place;
+        uint64_t answer = maststep_read(capture, length, place, mode, &next);
+
+        snprintf(name, sizeof name, "%s: attempt %u", what, (unsigned)number + 1);
+        same(name, answer, number < attempts ? answers[number] : UINT64_MAX);
+        number++;
+        snprintf(name, sizeof name, "%s: the next place is later", what);
+        same(name, next > place && next <= length, 1);
+        if (next <= place) return;
+        place = next;
+    }
+    snprintf(name, sizeof name, "%s: attempts", what);
+    same(name, number, attempts);
+}
+
+static void test_glued(void)
+{
+    static const uint32_t quiet[2] = {130, 3441};
+    static const unsigned damaged[] = {28, 0};
+    const uint64_t d47 = packed(0x80, UINT64_C(1) << 47), d46 = packed(0x80, UINT64_C(1) << 46);
+    uint32_t mode;
+
+    for (mode = 0; mode < 2; mode++) {
+        const uint64_t good_good[] = {d47, d46}, cut_good[] = {packed(2, 0), d46}, check_good[] = {packed(3, 0), d46};
+        const uint64_t gap_good_cut[] = {packed(1, 0), d46, packed(2, 0)};
+        size_t first, length;
+
+        first = draw_at(0, mode, UINT32_MAX - 4000, OF_D47);
+        length = draw_at(first, mode, capture[first - 1] + quiet[mode], OF_D46);
+        reads("two pages, the first", capture, length, 0, mode, d47, first);
+        reads("two pages, the second", capture, length, first, mode, d46, length);
+        walks("two pages", length, mode, good_good, 2);
+
+        length = draw_at(first, mode, capture[first - 1] + quiet[mode] - 1, OF_D46);
+        walks("a second page too early is dropped", length, mode, good_good, 1);
+
+        first = draw_at(0, mode, 0, OF_D47) - 1;
+        length = draw_at(first, mode, capture[first - 1] + quiet[mode], OF_D46);
+        reads("a cut page before a page", capture, length, 0, mode, packed(2, 0), first);
+        walks("a cut page and a page", length, mode, cut_good, 2);
+
+        first = draw_at(0, mode, 0, damaged);
+        length = draw_at(first, mode, capture[first - 1] + quiet[mode], OF_D46);
+        walks("a damaged page and a page", length, mode, check_good, 2);
+
+        first = take_out(2, draw_at(0, mode, 0, OF_D47));
+        length = draw_at(first, mode, capture[first - 1] + 1000000, OF_D46);
+        length = put_after(length, quiet[mode]);
+        walks("a broken page, a page and an edge", length, mode, gap_good_cut, 3);
+    }
+    walks("no readings", 0, 0, NULL, 0);
+}
+
+static void test_nothing_and_refusals(void)
+{
+    const size_t length = draw_at(0, 0, 0, NONE);
+
+    reads("the place is the length", capture, length, length, 0, 0, length);
+    reads("the place is the length, LSM", capture, length, length, 1, 0, length);
+    reads("length 0", capture, 0, 0, 0, 0, 0);
+    reads("length 0 and no list", NULL, 0, 0, 1, 0, 0);
+
+    /* Each alone. */
+    reads("read in mode 2", capture, length, 0, 2, packed(14, 0), UNTOUCHED);
+    reads("read in mode 2^32 - 1", capture, length, 0, UINT32_MAX, packed(14, 0), UNTOUCHED);
+    reads("the place is past the end", capture, length, length + 1, 0, packed(12, 0), UNTOUCHED);
+    reads("the place is past the end, LSM", capture, length, length + 1, 1, packed(12, 0), UNTOUCHED);
+    reads("read at SIZE_MAX", capture, length, SIZE_MAX, 0, packed(12, 0), UNTOUCHED);
+    /* As bytes the place wraps to the first reading. */
+    reads("read at 2^62", capture, length, (size_t)1 << 62, 0, packed(12, 0), UNTOUCHED);
+    reads("read length 0, place 1", capture, 0, 1, 0, packed(12, 0), UNTOUCHED);
+    reads("read length 0, place SIZE_MAX", capture, 0, SIZE_MAX, 1, packed(12, 0), UNTOUCHED);
+
+    /* Both: Mode, then Room. */
+    reads("read in mode 2 past the end", capture, length, length + 1, 2, packed(14, 0), UNTOUCHED);
+    reads("read in mode 2 at SIZE_MAX", capture, length, SIZE_MAX, 2, packed(14, 0), UNTOUCHED);
+    reads("read in mode 2 at the length", capture, length, length, 2, packed(14, 0), UNTOUCHED);
+    reads("read in mode 2, length 0", capture, 0, 0, 2, packed(14, 0), UNTOUCHED);
+    reads("read in mode 2, length 0 and no list", NULL, 0, 1, UINT32_MAX, packed(14, 0), UNTOUCHED);
+}
+
 int main(void)
 {
     /* Line by line, so that what failed is still shown if a later call crashes. */
@@ -298,6 +644,13 @@ int main(void)
     test_pages();
     test_places();
     test_refusals();
+    test_read_back();
+    test_ends();
+    test_gaps();
+    test_damaged();
+    test_dropping();
+    test_glued();
+    test_nothing_and_refusals();
     printf("%u passed, %u failed\n", passed, failed);
     return failed > 0;
 }
