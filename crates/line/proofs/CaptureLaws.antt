@@ -12,8 +12,12 @@ use lib.Seq.{drop-cons, take-all}
 use Rattle.refusal.specs.Answers.{Said, refused}
 use Rattle.line.specs.declared.modes.LineMode.{LineMode}
 use Rattle.line.specs.declared.reader.Reader.{Reader}
-use Rattle.line.specs.declared.reader.Reader.the-variants.{Fresh}
-use Rattle.line.specs.Reading.{edgeOf}
+use Rattle.line.specs.declared.reader.Reader.the-variants.{Fresh, Dropping}
+use Rattle.line.specs.declared.modes.Judgement.{Judgement}
+use Rattle.line.specs.declared.modes.Judgement.the-variants.{Positions, Quiet, Unfit}
+use Rattle.line.specs.Clock.{timeBetween}
+use Rattle.line.specs.Gaps.{judgementOf}
+use Rattle.line.specs.Reading.{edgeOf, dropsOn}
 use Rattle.line.specs.Captures.{Attempt, ends, isOpen, opensAt, attemptOf}
 
 -- The part of a list from a place on, as it is lent.
@@ -107,3 +111,22 @@ module _ (m : LineMode) (tail : List ℕ) (place : ℕ) (reader : Reader) (i : �
 
   pub ran-out : length tail ≤ i → attemptOf m Fresh tail place ≡ ends (refused 2) (place + i)
   ran-out h = t .same ∙ attempt-end m reader tail (place + i) i h
+
+-- While edges are dropped: each that opens nothing is the one before the next.
+pub drops : (m : LineMode) (last x : ℕ) → edgeOf m (Dropping last) x ≡ dropsOn x (judgementOf m (timeBetween x last))
+unfolding edgeOf
+drops m last x = refl
+
+pub stays : (x : ℕ) (j : Judgement) → isOpen (dropsOn x j .reader) ≡ false → dropsOn x j .reader ≡ Dropping x
+unfolding dropsOn
+stays x Quiet h = absurd (let z : _≡_ {A = ℕ} 0 1 = cc h in omega arith)
+stays x Unfit h = refl
+stays x (Positions k) h = refl
+
+opens-at-once : (m : LineMode) (l : List ℕ) (at : ℕ) → opensAt m Fresh l at ≡ at
+unfolding opensAt edgeOf
+opens-at-once m [] at = refl
+opens-at-once m (x ∷ rest) at = refl
+
+pub first-opens : (m : LineMode) (tail : List ℕ) (place i : ℕ) → opensAt m Fresh (drop i tail) (place + i) ≡ place + i
+first-opens m tail place i = opens-at-once m (drop i tail) (place + i)

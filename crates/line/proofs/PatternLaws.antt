@@ -23,6 +23,12 @@ pub record Small (k : ℕ) : Type 0 where
   pub least : 1 ≤ k
   pub most : k ≤ 4
 
+-- A clock's position.
+pub record Clocked (p : ℕ) : Type 0 where
+  pub least : 27 ≤ p
+  pub most : p ≤ 153
+  pub uneven : p % 2 ≡ 1
+
 -- In the delimiter: of the mask's bits from `at` to `at + k` just the first and the last are one.
 abbrev spansMask : ℕ → ℕ → ℕ → Bool
 spansMask mask at k = eqb ((mask / 2 ^ at) % 2 ^ (k + 1)) (2 ^ k + 1)
@@ -186,3 +192,17 @@ counted-small m gap k =
     by false false false true q e = small 4 (omega arith) (omega arith) e
     by false false false false true e = absurd (let z : _≡_ {A = ℕ} 0 1 = cc e in omega arith)
     by false false false false false e = absurd (let z : _≡_ {A = ℕ} 0 1 = cc e in omega arith)
+
+-- After a clock, by the test for a clock.
+clock-by : (p : ℕ) → (a b c : Bool) → leb 27 p ≡ a → leb p 153 ≡ b → odd p ≡ c → (a && (b && c)) ≡ true → Clocked p
+clock-by p true true true a b c h = record { least = leb-true 27 p a; most = leb-true p 153 b; uneven = eqb-true (p % 2) 1 c }
+clock-by p true true false a b c h = absurd (true≢false (sym h))
+clock-by p true false c' a b c h = absurd (true≢false (sym h))
+clock-by p false b' c' a b c h = absurd (true≢false (sym h))
+
+pub clocked : (p : ℕ) → isClock p ≡ true → Clocked p
+unfolding isClock
+clocked p h = clock-by p (leb 27 p) (leb p 153) (odd p) refl refl refl h
+
+pub clock-asks : (slow : Bool) (at k : ℕ) → Small k → isClock at ≡ true → asks slow at k ≡ leb k 2
+clock-asks slow at k s h = let c = clocked at h in after-clock slow at k s (omega arith) (c .most) (c .uneven)

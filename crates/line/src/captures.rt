@@ -5,12 +5,13 @@ ghost use Prim.Native.Nat.{_+_, _≤_};
 ghost use lib.Dec.{eqb};
 ghost use lib.ListN.{length, drop};
 ghost use Rattle.refusal.specs.Answers.{said};
-ghost use Rattle.line.specs.declared.reader.Reader.the-variants.{Fresh};
+ghost use Rattle.line.specs.declared.reader.Reader.the-variants.{Fresh, Dropping};
 ghost use Rattle.line.specs.Captures.{Tells, isOpen, opensAt, attemptOf, readIn, readOf};
 use crate::modes::Found;
 use crate::modes::LineMode;
 use crate::modes::mode_of;
 use crate::reader::Reader;
+use crate::reader::drop_on;
 use refusal::Answer;
 use refusal::Refusal;
 
@@ -48,19 +49,22 @@ fn speaks(answer: Answer) -> bool
     }
 }
 
-// The place of the first edge from an index of the tail on that opens an attempt; the tail stands at a place of the capture.
-fn opens_at(tail: &[u32], place: usize, from: usize, mode: LineMode, reader: Reader) -> usize
+// The place of the first edge from an index of the tail on that follows a quiet gap; the tail stands at a place of the capture. The edge
+// before that index came at `last`.
+fn opens_at(tail: &[u32], place: usize, from: usize, mode: LineMode, last: u32) -> usize
     requires { ⌜ (from ≤ length (now tail)) × (place + length (now tail) ≤ 18446744073709551615) ⌝ }
-    ensures { λ r. ⌜ r ≡ opensAt mode reader (drop from (now (tail .entry))) (place + from) ⌝ }
+    ensures { λ r. ⌜ r ≡ opensAt mode (Dropping last) (drop from (now (tail .entry))) (place + from) ⌝ }
 {
-    let mut held = reader;
+    let mut before = last;
     let mut i = from;
     while i < tail.len() {
-        let step = held.edge(mode, tail[i]);
-        held = step.reader;
-        if is_open(held) {
+        let reading = tail[i];
+        let step = drop_on(mode, before, reading);
+        let after = step.reader;
+        if is_open(after) {
             return place + i;
         }
+        before = reading;
         i += 1;
     }
     place + i
@@ -79,16 +83,19 @@ fn ended(
     ensures answer { λ r. ⌜ said (r .answer) ≡ said answer ⌝ }
     ensures next { λ r. ⌜ r .next ≡ cond (isOpen reader) (place + i) (opensAt mode reader (drop (i + 1) (now (tail .entry))) (place + (i + 1))) ⌝ }
 {
-    if is_open(reader) {
-        return Outcome {
+    match reader {
+        Reader::Fresh => Outcome {
+            answer: answer,
+            next: place + (i + 1),
+        },
+        Reader::Open { at, last, bits } => Outcome {
             answer: answer,
             next: place + i,
-        };
-    }
-    let next = opens_at(tail, place, i + 1, mode, reader);
-    Outcome {
-        answer: answer,
-        next: next,
+        },
+        Reader::Dropping { last } => Outcome {
+            answer: answer,
+            next: opens_at(tail, place, i + 1, mode, last),
+        },
     }
 }
 

@@ -86,13 +86,19 @@ fn arrive(at: u32, bits: u64, reading: u32) -> Step
     }
 }
 
-// An edge so many positions after the last one of an attempt.
+// An edge so many positions after the last one of an attempt. Most edges follow a clock, so that is looked at first.
 fn step_on(slow: bool, at: u32, k: u32, bits: u64, reading: u32) -> Step
     requires { ⌜ (1 ≤ k) × (k ≤ 4) ⌝ }
     ensures { λ r. ⌜ Gives r (goesOn slow at bits reading (Positions k)) ⌝ }
 {
+    if is_clock(at) {
+        if k <= 2 {
+            return arrive(at + k, with_bit(at, k, bits), reading);
+        }
+        return dropped(Answer::Refused(Refusal::Gap), reading);
+    }
     if pattern_asks(slow, at, k) {
-        return arrive(at + k, with_bit(at, k, bits), reading);
+        return arrive(at + k, bits, reading);
     }
     dropped(Answer::Refused(Refusal::Gap), reading)
 }
@@ -109,7 +115,7 @@ fn go_on(mode: LineMode, at: u32, last: u32, bits: u64, reading: u32) -> Step
 }
 
 // An edge after an attempt has ended.
-fn drop_on(mode: LineMode, last: u32, reading: u32) -> Step
+pub(crate) fn drop_on(mode: LineMode, last: u32, reading: u32) -> Step
     ensures { λ r. ⌜ Gives r (dropsOn reading (judgementOf mode (timeBetween reading last))) ⌝ }
 {
     match mode.judgement(time_between(reading, last)) {

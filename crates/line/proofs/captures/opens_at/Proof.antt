@@ -4,27 +4,30 @@ use Prim.Native.Nat.{_-_}
 use native.Mathlib.Omega.{arith}
 use borrow.Author.Needs.{needs}
 use lib.ListN.{length}
-use Rattle.line.proofs.CaptureLaws.{Seeking, found, seek-on, sought}
+use Rattle.line.specs.declared.reader.Reader.the-variants.{Dropping}
+use Rattle.line.specs.Reading.{Brings}
+use Rattle.line.specs.Captures.{isOpen}
+use Rattle.line.proofs.CaptureLaws.{Seeking, found, seek-on, sought, drops, stays}
 use Rattle.line.proofs.captures.opens_at.Statement.{statement}
 use Rattle.line.proofs.captures.opens_at.Tie as tie
 
 abbrev Inv-loop : tie.InvT-loop
-Inv-loop tail place from mode held₀ i₀ held i = Seeking mode held₀ tail place i₀ held i
+Inv-loop tail place from mode last before₀ i₀ before i = Seeking mode (Dropping before₀) tail place i₀ (Dropping before) i
 
 abbrev μ-loop : tie.MeasureT-loop
-μ-loop tail place from mode held₀ i₀ held i = length tail - i
+μ-loop tail place from mode last before₀ i₀ before i = length tail - i
 
 loop-holds : tie.Need-loop-holds Inv-loop μ-loop
 loop-holds c = record { most = omega arith; same = refl }
 
-mul-edge : tie.Need-mul-edge Inv-loop μ-loop
-mul-edge c = search needs
+mul-reading : tie.Need-mul-reading Inv-loop μ-loop
+mul-reading c = search needs
 
-shared-slice-read-edge : tie.Need-shared-slice-read-edge Inv-loop μ-loop
-shared-slice-read-edge c = search needs
+shared-slice-read-reading : tie.Need-shared-slice-read-reading Inv-loop μ-loop
+shared-slice-read-reading c = search needs
 
-edge-requires : tie.Need-edge-requires Inv-loop μ-loop
-edge-requires c κs = search needs
+drop-on-requires : tie.Need-drop-on-requires Inv-loop μ-loop
+drop-on-requires c κs = search needs
 
 is-open-requires : tie.Need-is-open-requires Inv-loop μ-loop
 is-open-requires c κs = search needs
@@ -34,7 +37,7 @@ add-result c = omega arith
 
 returns : tie.Need-returns Inv-loop μ-loop
 returns c =
-    found _ _ _ _ _ _ _ (c .before .before .before .before .before .loop .inv) _ (c .before .before .edge .ensures .reader) (sym (c .before .is-open .ensures) ∙ c .if1 .taken) (omega arith)
+    found _ _ _ _ _ _ _ (c .before .before .before .before .before .loop .inv) _ (c .before .before .drop-on .ensures .reader ∙ ap (λ (b : Brings). b .reader) (sym (drops _ _ _))) (sym (c .before .is-open .ensures) ∙ c .if1 .taken) (omega arith)
 
 add-i : tie.Need-add-i Inv-loop μ-loop
 add-i c = omega arith
@@ -44,7 +47,7 @@ loop-less c = omega arith
 
 loop-again : tie.Need-loop-again Inv-loop μ-loop
 loop-again c =
-    seek-on _ _ _ _ _ _ _ (c .before .before .before .before .before .loop .inv) _ (c .before .before .edge .ensures .reader) (sym (c .before .is-open .ensures) ∙ c .if1 .left) (omega arith)
+    seek-on _ _ _ _ _ _ _ (c .before .before .before .before .before .loop .inv) _ (sym (stays _ _ (ap isOpen (sym (c .before .before .drop-on .ensures .reader)) ∙ sym (c .before .is-open .ensures) ∙ c .if1 .left)) ∙ ap (λ (b : Brings). b .reader) (sym (drops _ _ _))) refl (omega arith)
 
 add-result-2 : tie.Need-add-result-2 Inv-loop μ-loop
 add-result-2 c = omega arith
@@ -59,9 +62,9 @@ opens-at-spec =
     Inv-loop
     μ-loop
     loop-holds
-    mul-edge
-    shared-slice-read-edge
-    edge-requires
+    mul-reading
+    shared-slice-read-reading
+    drop-on-requires
     is-open-requires
     add-result
     returns
