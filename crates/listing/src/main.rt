@@ -1,0 +1,61 @@
+// The bench listing: a capture on standard input, its listing on standard output.
+ghost use mathlib.Core.Path.{_≡_};
+ghost use lib.ListN.{length, take};
+ghost use Rattle.io.specs.Counts.{Counts};
+ghost use Rattle.listing_text.specs.Listing.{listing};
+use libc::STDERR_FILENO;
+use libc::STDIN_FILENO;
+use libc::STDOUT_FILENO;
+
+// Room for the longest input and one byte more, so that a longer one is seen to be too long.
+fn input_space() -> [u8; 32002]
+    ensures { λ r. ⌜ 32002 ≡ length r ⌝ }
+{
+    [0; 32002]
+}
+
+// Room for the readings of every input.
+fn reading_space() -> [u32; 8000]
+    ensures { λ r. ⌜ 8000 ≡ length r ⌝ }
+{
+    [0; 8000]
+}
+
+// Room for every listing.
+fn output_space() -> [u8; 184040]
+    ensures { λ r. ⌜ 184040 ≡ length r ⌝ }
+{
+    [0; 184040]
+}
+
+// 2^56: the number of an answer stands below its kind.
+const KIND: u64 = 72057594037927936;
+
+// Puts the listing of the input at the head of the output, and answers how many bytes it has.
+fn list(input: &[u8], readings: &mut [u32], output: &mut [u8]) -> usize
+    requires { ⌜ (8000 ≡ length (now readings)) × (184040 ≡ length (now output)) ⌝ }
+    ensures { λ r. ⌜ Counts r (now (output .exit)) ⌝ }
+    ensures { λ r. ⌜ take r (now (output .exit)) ≡ listing (now (input .entry)) ⌝ }
+{
+    let answer = listing_text::list(input, readings, output);
+    (answer.packed() % KIND) as usize
+}
+
+// Reads the input and writes its listing.
+fn serve(input: &mut [u8], readings: &mut [u32], output: &mut [u8])
+    requires { ⌜ (8000 ≡ length (now readings)) × (184040 ≡ length (now output)) ⌝ }
+{
+    let got = io::read_full(STDIN_FILENO, input);
+    let count = list(&input[..got], readings, output);
+    if io::write_all(STDOUT_FILENO, &output[..count]) {
+        return;
+    }
+    io::write_all(STDERR_FILENO, b"listing: the output could not be written\n");
+}
+
+fn main() {
+    let mut input = input_space();
+    let mut readings = reading_space();
+    let mut output = output_space();
+    serve(&mut input, &mut readings, &mut output);
+}

@@ -1,0 +1,10 @@
+pub mod PlacingLaws
+pub mod NumberLaws
+pub mod AttemptLaws
+pub mod LineLaws
+pub mod ReadingLaws
+pub mod WalkLaws
+pub mod InputLaws
+pub mod ListingLength
+pub mod ListingExamples
+pub mod EndingLaws

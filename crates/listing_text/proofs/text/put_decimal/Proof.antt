@@ -1,0 +1,37 @@
+use mathlib.Core.Path.{ap}
+use native.Mathlib.Omega.{arith}
+use lib.ListN.{length}
+use Rattle.listing_text.proofs.NumberLaws.{as-decimal, decimal-short}
+use Rattle.listing_text.proofs.PlacingLaws.{puts-same}
+use borrow.Author.Needs.{needs}
+use Rattle.listing_text.proofs.text.put_decimal.Statement.{statement}
+use Rattle.listing_text.proofs.text.put_decimal.Tie as tie
+
+decimal-requires : tie.Need-decimal-requires
+decimal-requires c κs = search needs
+
+array-share-prefix-digits : tie.Need-array-share-prefix-digits
+array-share-prefix-digits c = search needs
+
+slice-aggregate-put-bytes : tie.Need-slice-aggregate-put-bytes
+slice-aggregate-put-bytes c = search needs
+
+put-bytes-requires : tie.Need-put-bytes-requires
+put-bytes-requires c κs = omega (arith, ap length (as-decimal (c .before .before .before .before .before .args .number) _ _ (c .before .before .before .before .before .pre .0) (c .before .before .decimal .ensures .1 .0) (c .before .before .decimal .ensures .1 .1)), decimal-short (c .before .before .before .before .before .args .number))
+
+same-length : tie.Need-same-length
+same-length c = search needs
+
+returns : tie.Need-returns
+returns c = let p = puts-same (c .before .before .put-bytes .ensures) (as-decimal (c .before .before .before .before .before .before .before .before .args .number) _ _ (c .before .before .before .before .before .before .before .before .pre .0) (c .before .before .before .before .before .decimal .ensures .1 .0) (c .before .before .before .before .before .decimal .ensures .1 .1)) in (p, omega (arith, p .behind, decimal-short (c .before .before .before .before .before .before .before .before .args .number)))
+
+pub put-decimal-spec : {M : Type 1} → statement M
+put-decimal-spec =
+    tie.close
+    (tie.spec
+    decimal-requires
+    array-share-prefix-digits
+    slice-aggregate-put-bytes
+    put-bytes-requires
+    same-length
+    returns)

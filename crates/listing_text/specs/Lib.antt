@@ -1,0 +1,4 @@
+pub mod Words
+pub mod Placing
+pub mod Listing
+pub mod Calls
