@@ -7,10 +7,10 @@ use mathlib.Core.List.{List, [], _∷_, _++_}
 use Prim.Native.Nat.{ℕ, zero, suc, _+_, _-_, _%_, _^_, _<_, _≤_}
 use native.Mathlib.Nat.{le-refl}
 use native.Mathlib.Omega.{arith}
-use lib.Dec.{eqb}
+use lib.Dec.{eqb, ltb}
 use lib.ListN.{length, drop, length-drop, drop-of-length-le}
 use lib.Seq.{drop-nil, drop-drop}
-use borrow.Author.Tests.{le-ltb, ne-eqb}
+use borrow.Author.Tests.{ltb-true, ltb-false, le-ltb, ne-eqb}
 use Rattle.refusal.specs.Answers.{Said, nothing, refused, pageRead}
 use Rattle.page.specs.CheckBits.{agrees}
 use Rattle.line.specs.declared.modes.LineMode.{LineMode}
@@ -37,6 +37,9 @@ closing r = cond (isOpen r) (refused 2 ∷ []) []
 -- Every attempt of a list of edges that a reader takes, as it tells them edge by edge.
 abbrev pub toldBy : LineMode → Reader → List ℕ → List Said
 toldBy m r edges = spoken (saidAlong m r edges) ++ closing (readerAfter m r edges)
+
+abbrev pub toldFresh : LineMode → List ℕ → List Said
+toldFresh m edges = toldBy m Fresh edges
 
 -- What an edge brings to an open attempt: it goes on; or it is cut and the edge opens the next; or it ends and edges are dropped.
 data Turns (x : ℕ) : Brings → Type 0 where
@@ -212,3 +215,28 @@ walk-step m capture place h =
 -- At the end of a capture nothing is left to tell.
 pub walk-end : (m : LineMode) (capture : List ℕ) (place : ℕ) → length capture ≤ place → toldBy m Fresh (drop place capture) ≡ []
 walk-end m capture place h = ap (toldBy m Fresh) (drop-of-length-le capture h)
+
+-- The walk: what is said at each place, from place to next place up to the end, at most so often.
+abbrev pub attemptsBy : (ℕ → Attempt) → ℕ → ℕ → ℕ → List Said
+attemptsBy read end zero place = []
+attemptsBy read end (suc more) place =
+    let attempt = read place in
+    let later = attemptsBy read end more (attempt .next) in cond (ltb place end) (attempt .says ∷ later) []
+
+-- It tells just the attempts that a reader tells edge by edge along the capture, each once and in order; and as many calls as there are
+-- edges left are enough.
+pub attempts-told : (m : LineMode) (capture : List ℕ) (more place : ℕ) → length capture - place ≤ more
+    → attemptsBy (readIn m capture) (length capture) more place ≡ toldBy m Fresh (drop place capture)
+attempts-told m capture zero place h = sym (walk-end m capture place (omega arith))
+attempts-told m capture (suc more) place h = by (attempts-told m capture more) (ltb place (length capture)) refl
+  where
+    by : ((next : ℕ) → length capture - next ≤ more → attemptsBy (readIn m capture) (length capture) more next ≡ toldBy m Fresh (drop next capture))
+        → (t : Bool) → ltb place (length capture) ≡ t
+        → cond t (readIn m capture place .says ∷ attemptsBy (readIn m capture) (length capture) more (readIn m capture place .next)) []
+        ≡ toldBy m Fresh (drop place capture)
+    by ih true e =
+        let l = ltb-true place (length capture) e in
+        let s = walk-step m capture place l in
+        ap (λ (rest : List Said). readIn m capture place .says ∷ rest) (ih (readIn m capture place .next) (let f = s .forward in omega arith))
+        ∙ sym (s .told)
+    by ih false e = sym (walk-end m capture place (ltb-false place (length capture) e))

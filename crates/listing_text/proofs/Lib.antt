@@ -8,3 +8,4 @@ pub mod InputLaws
 pub mod ListingLength
 pub mod ListingExamples
 pub mod EndingLaws
+pub mod EveryAttempt
