@@ -7,16 +7,12 @@ use native.Mathlib.Omega.{arith}
 use lib.ListN.{length, getD, drop, set, length-append, length-drop, length-set}
 use lib.Seq.{drop-cons, set-at}
 use Rattle.listing_text.specs.Placing.{headed}
-use Rattle.listing_text.specs.Listing.{readingsOf}
+use Rattle.listing_text.specs.Listing.{readingsOf, readingFrom}
 
 step : (l : List ℕ) (i j : ℕ) → j ≡ suc i → i < length l → drop i l ≡ getD l i 0 ∷ drop j l
 step l i j e h = drop-cons l i 0 h ∙ ap (λ (k : ℕ). getD l i 0 ∷ drop k l) (sym e)
 
--- The number of four bytes from an index on.
-abbrev pub reading : List ℕ → ℕ → ℕ
-reading l i = getD l i 0 + 256 * getD l (i + 1) 0 + 65536 * getD l (i + 2) 0 + 16777216 * getD l (i + 3) 0
-
-four : (l : List ℕ) (i : ℕ) → i + 4 ≤ length l → readingsOf (drop i l) ≡ reading l i ∷ readingsOf (drop (i + 4) l)
+four : (l : List ℕ) (i : ℕ) → i + 4 ≤ length l → readingsOf (drop i l) ≡ readingFrom l i ∷ readingsOf (drop (i + 4) l)
 unfolding readingsOf
 four l i h =
     ap readingsOf
@@ -48,23 +44,23 @@ pub decode-start : (input before : List ℕ) (count : ℕ) → Decoding input be
 decode-start input before count = record { done = []; size = refl; most = omega arith; contents = refl; same = refl; long = refl }
 
 module _ (input before list : List ℕ) (count i : ℕ) (g : Decoding input before list count i) (whole : 4 * count + 1 ≤ length input) where
-  pub decode-on : i < count → count ≤ length before → Decoding input before (set list i (reading input (1 + 4 * i))) count (i + 1)
+  pub decode-on : i < count → count ≤ length before → Decoding input before (set list i (readingFrom input (1 + 4 * i))) count (i + 1)
   decode-on h room =
       record {
-        done = g .done ++ (reading input (1 + 4 * i) ∷ []);
-        size = length-append (g .done) (reading input (1 + 4 * i) ∷ []) ∙ ap (λ (n : ℕ). n + 1) (g .size);
+        done = g .done ++ (readingFrom input (1 + 4 * i) ∷ []);
+        size = length-append (g .done) (readingFrom input (1 + 4 * i) ∷ []) ∙ ap (λ (n : ℕ). n + 1) (g .size);
         most = omega arith;
         contents =
-            ap (λ (l : List ℕ). set l i (reading input (1 + 4 * i))) (g .contents ∙ ap (λ (l : List ℕ). g .done ++ l) (step before i (i + 1) (add-one i) (omega arith)))
-            ∙ set-at (g .done) (getD before i 0) (drop (i + 1) before) (reading input (1 + 4 * i)) i (g .size)
-            ∙ sym (append-assoc (g .done) (reading input (1 + 4 * i) ∷ []) (drop (i + 1) before));
+            ap (λ (l : List ℕ). set l i (readingFrom input (1 + 4 * i))) (g .contents ∙ ap (λ (l : List ℕ). g .done ++ l) (step before i (i + 1) (add-one i) (omega arith)))
+            ∙ set-at (g .done) (getD before i 0) (drop (i + 1) before) (readingFrom input (1 + 4 * i)) i (g .size)
+            ∙ sym (append-assoc (g .done) (readingFrom input (1 + 4 * i) ∷ []) (drop (i + 1) before));
         same =
             g .same
             ∙ ap (λ (l : List ℕ). g .done ++ l)
             (four input (1 + 4 * i) (omega arith)
-            ∙ ap (λ (n : ℕ). reading input (1 + 4 * i) ∷ readingsOf (drop n input)) (let e : (1 + 4 * i) + 4 ≡ 1 + 4 * (i + 1) = omega arith in e))
-            ∙ sym (append-assoc (g .done) (reading input (1 + 4 * i) ∷ []) (readingsOf (drop (1 + 4 * (i + 1)) input)));
-        long = length-set list i (reading input (1 + 4 * i)) ∙ g .long;
+            ∙ ap (λ (n : ℕ). readingFrom input (1 + 4 * i) ∷ readingsOf (drop n input)) (let e : (1 + 4 * i) + 4 ≡ 1 + 4 * (i + 1) = omega arith in e))
+            ∙ sym (append-assoc (g .done) (readingFrom input (1 + 4 * i) ∷ []) (readingsOf (drop (1 + 4 * (i + 1)) input)));
+        long = length-set list i (readingFrom input (1 + 4 * i)) ∙ g .long;
       }
 
   -- What the loop leaves.

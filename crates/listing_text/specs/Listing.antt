@@ -3,7 +3,7 @@ use Prim.Native.Nat.{ℕ, zero, suc, _+_, _*_, _%_}
 use mathlib.Core.Bool.{Bool, cond}
 use mathlib.Core.List.{List, [], _∷_, _++_}
 use lib.Dec.{eqb, ltb}
-use lib.ListN.{length}
+use lib.ListN.{length, getD}
 use Rattle.refusal.specs.Answers.{Said}
 use Rattle.line.specs.Captures.{readOf}
 use Rattle.listing_text.specs.Words.{lineFeed, space, modeWord, modeName, edgesWord, goodWord, gapWord, cutWord, checkWord, pagesWord, badWord, refusedWord, decimal, hexDigits}
@@ -15,6 +15,10 @@ readingsOf (a ∷ []) = []
 readingsOf (a ∷ b ∷ []) = []
 readingsOf (a ∷ b ∷ c ∷ []) = []
 readingsOf (a ∷ b ∷ c ∷ d ∷ rest) = (a + 256 * b + 65536 * c + 16777216 * d) ∷ readingsOf rest
+
+-- The reading whose four bytes stand in a list from an index on.
+abbrev pub readingFrom : List ℕ → ℕ → ℕ
+readingFrom bytes at = getD bytes at 0 + 256 * getD bytes (at + 1) 0 + 65536 * getD bytes (at + 2) 0 + 16777216 * getD bytes (at + 3) 0
 
 -- What is said at each attempt of a capture, in order: the read call goes from place to next place until the place is the length. The
 -- first argument bounds the number of attempts. Each next place is greater than the place, so as many as there are readings suffice.

@@ -1,10 +1,10 @@
 // From the bytes of the input to the bytes of the listing.
 ghost use mathlib.Core.Path.{_≡_};
-ghost use Prim.Native.Nat.{_+_, _*_, _<_, _≤_};
-ghost use lib.ListN.{length, getD, drop};
+ghost use Prim.Native.Nat.{_+_, _<_, _≤_};
+ghost use lib.ListN.{length, drop};
 ghost use Rattle.refusal.specs.Answers.{said};
 ghost use Rattle.listing_text.specs.Placing.{Puts, headed};
-ghost use Rattle.listing_text.specs.Listing.{readingsOf, listing, listedReadings};
+ghost use Rattle.listing_text.specs.Listing.{readingsOf, readingFrom, listing, listedReadings};
 ghost use Rattle.listing_text.specs.Calls.{listSays, listReadings, listOutput};
 use crate::capture::list_capture;
 use crate::text::put_bytes;
@@ -25,7 +25,7 @@ fn wide(byte: u8) -> u32
 // Four bytes from an index on, as a number.
 fn reading_at(input: &[u8], at: usize) -> u32
     requires { ⌜ at + 4 ≤ length (now input) ⌝ }
-    ensures { λ r. ⌜ r ≡ getD (now (input .entry)) at 0 + 256 * getD (now (input .entry)) (at + 1) 0 + 65536 * getD (now (input .entry)) (at + 2) 0 + 16777216 * getD (now (input .entry)) (at + 3) 0 ⌝ }
+    ensures { λ r. ⌜ r ≡ readingFrom (now (input .entry)) at ⌝ }
 {
     let a = wide(input[at]);
     let b = wide(input[at + 1]);

@@ -24,7 +24,8 @@ put-first-line-requires : tie.Need-put-first-line-requires Inv-loop μ-loop
 put-first-line-requires c κs = search needs
 
 loop-holds : tie.Need-loop-holds Inv-loop μ-loop
-loop-holds c = walk-start _ _ _ _ (c .before .before .put-first-line .ensures .1) (let s = same-long (c .before .before .put-first-line .ensures .0) in omega arith)
+loop-holds c =
+    walk-start _ _ _ _ (c .before .before .put-first-line .ensures .1) (let s = same-long (c .before .before .put-first-line .ensures .0) in omega arith)
 
 read-requires : tie.Need-read-requires Inv-loop μ-loop
 read-requires c κs = search needs
@@ -48,25 +49,51 @@ add-bad : tie.Need-add-bad Inv-loop μ-loop
 add-bad c = search needs
 
 loop-less : tie.Need-loop-less Inv-loop μ-loop
-loop-less c = let l = later (c .before .before .before .before .before .before .before .before .before .before .before .before .before .before .before .args .mode) (c .before .before .before .before .before .before .before .before .before .before .before .before .before .before .before .args .capture .now) (c .before .before .before .before .before .before .before .before .loop .place) (c .before .before .before .before .before .before .before .before .before .before .before .before .before .before .before .pre .0) (c .before .before .before .before .before .before .before .loop-test .taken) in let e = c .before .before .before .before .before .before .read .ensures .next in omega (arith, l .greater, l .most, e)
+loop-less c =
+    let start = c .before .before .before .before .before .before .before .before .before .before .before .before .before .before .before in
+    let l = later (start .args .mode) (start .args .capture .now) (c .before .before .before .before .before .before .before .before .loop .place) (start .pre .0)
+    (c .before .before .before .before .before .before .before .loop-test .taken) in
+    let e = c .before .before .before .before .before .before .read .ensures .next in
+    omega (arith, l .greater, l .most, e)
 
 loop-again : tie.Need-loop-again Inv-loop μ-loop
-loop-again c = let p = c .before .before .before .before .before .packed .ensures ∙ ap packed (c .before .before .before .before .before .before .read .ensures .answer) in walk-good _ _ _ _ _ _ _ _ _ (c .before .before .before .before .before .before .before .before .loop .inv) (c .before .before .before .before .before .before .before .before .before .before .before .before .before .before .before .pre .0) (c .before .before .before .before .before .before .before .loop-test .taken) _ _ _ (c .before .before .before .before .before .before .read .ensures .next) (puts-same (c .before .before .before .put-attempt .ensures .0) (same-line _ _ _ p)) (c .before .before .before .put-attempt .ensures .1) (ap (λ (k : ℕ). eqb k 128) (sym (kind-above _ _ p)) ∙ eq-eqb _ 128 (c .if1 .taken))
+loop-again c =
+    let start = c .before .before .before .before .before .before .before .before .before .before .before .before .before .before .before in
+    let p = c .before .before .before .before .before .packed .ensures ∙ ap packed (c .before .before .before .before .before .before .read .ensures .answer) in
+    walk-good _ _ _ _ _ _ _ _ _ (c .before .before .before .before .before .before .before .before .loop .inv) (start .pre .0)
+    (c .before .before .before .before .before .before .before .loop-test .taken) _ _ _
+    (c .before .before .before .before .before .before .read .ensures .next) (puts-same (c .before .before .before .put-attempt .ensures .0) (same-line _ _ _ p))
+    (c .before .before .before .put-attempt .ensures .1) (ap (λ (k : ℕ). eqb k 128) (sym (kind-above _ _ p)) ∙ eq-eqb _ 128 (c .if1 .taken))
 
 loop-less-2 : tie.Need-loop-less-2 Inv-loop μ-loop
-loop-less-2 c = let l = later (c .before .before .before .before .before .before .before .before .before .before .before .before .before .before .before .args .mode) (c .before .before .before .before .before .before .before .before .before .before .before .before .before .before .before .args .capture .now) (c .before .before .before .before .before .before .before .before .loop .place) (c .before .before .before .before .before .before .before .before .before .before .before .before .before .before .before .pre .0) (c .before .before .before .before .before .before .before .loop-test .taken) in let e = c .before .before .before .before .before .before .read .ensures .next in omega (arith, l .greater, l .most, e)
+loop-less-2 c =
+    let start = c .before .before .before .before .before .before .before .before .before .before .before .before .before .before .before in
+    let l = later (start .args .mode) (start .args .capture .now) (c .before .before .before .before .before .before .before .before .loop .place) (start .pre .0)
+    (c .before .before .before .before .before .before .before .loop-test .taken) in
+    let e = c .before .before .before .before .before .before .read .ensures .next in
+    omega (arith, l .greater, l .most, e)
 
 loop-again-2 : tie.Need-loop-again-2 Inv-loop μ-loop
-loop-again-2 c = let p = c .before .before .before .before .before .packed .ensures ∙ ap packed (c .before .before .before .before .before .before .read .ensures .answer) in walk-bad _ _ _ _ _ _ _ _ _ (c .before .before .before .before .before .before .before .before .loop .inv) (c .before .before .before .before .before .before .before .before .before .before .before .before .before .before .before .pre .0) (c .before .before .before .before .before .before .before .loop-test .taken) _ _ _ (c .before .before .before .before .before .before .read .ensures .next) (puts-same (c .before .before .before .put-attempt .ensures .0) (same-line _ _ _ p)) (c .before .before .before .put-attempt .ensures .1) (ap (λ (k : ℕ). eqb k 128) (sym (kind-above _ _ p)) ∙ ne-eqb _ 128 (c .if1 .left))
+loop-again-2 c =
+    let start = c .before .before .before .before .before .before .before .before .before .before .before .before .before .before .before in
+    let p = c .before .before .before .before .before .packed .ensures ∙ ap packed (c .before .before .before .before .before .before .read .ensures .answer) in
+    walk-bad _ _ _ _ _ _ _ _ _ (c .before .before .before .before .before .before .before .before .loop .inv) (start .pre .0)
+    (c .before .before .before .before .before .before .before .loop-test .taken) _ _ _
+    (c .before .before .before .before .before .before .read .ensures .next) (puts-same (c .before .before .before .put-attempt .ensures .0) (same-line _ _ _ p))
+    (c .before .before .before .put-attempt .ensures .1) (ap (λ (k : ℕ). eqb k 128) (sym (kind-above _ _ p)) ∙ ne-eqb _ 128 (c .if1 .left))
 
 put-last-line-requires : tie.Need-put-last-line-requires Inv-loop μ-loop
 put-last-line-requires c κs = search needs
 
 same-length : tie.Need-same-length Inv-loop μ-loop
-same-length c = same-long (c .before .before .put-last-line .ensures) ∙ same-long (c .before .before .before .before .before .loop .inv .puts) ∙ same-long (c .before .before .before .before .before .before .before .before .put-first-line .ensures .0)
+same-length c =
+    same-long (c .before .before .put-last-line .ensures) ∙ same-long (c .before .before .before .before .before .loop .inv .puts) ∙ same-long
+    (c .before .before .before .before .before .before .before .before .put-first-line .ensures .0)
 
 returns : tie.Need-returns Inv-loop μ-loop
-returns c = walked _ _ _ _ _ _ _ _ _ (c .before .before .before .before .before .loop .inv) _ _ _ (omega arith) (c .before .before .before .before .before .before .before .before .put-first-line .ensures .0) (c .before .before .put-last-line .ensures)
+returns c =
+    walked _ _ _ _ _ _ _ _ _ (c .before .before .before .before .before .loop .inv) _ _ _ (omega arith)
+    (c .before .before .before .before .before .before .before .before .put-first-line .ensures .0) (c .before .before .put-last-line .ensures)
 
 pub list-capture-spec : {M : Type 1} → statement M
 list-capture-spec =

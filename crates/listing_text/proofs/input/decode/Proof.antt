@@ -46,7 +46,9 @@ same-length : tie.Need-same-length Inv-loop μ-loop
 same-length c = search needs
 
 returns : tie.Need-returns Inv-loop μ-loop
-returns c = let d = decoded _ _ _ _ _ (c .before .loop .inv) (omega arith) (omega arith) (omega arith) in (d .contents, (d .size, omega arith))
+returns c =
+    let d = decoded _ _ _ _ _ (c .before .loop .inv) (omega arith) (omega arith) (omega arith) in
+    (d .contents, (d .size, omega arith))
 
 pub decode-spec : {M : Type 1} → statement M
 decode-spec =

@@ -27,7 +27,15 @@ same-length-2 c = search needs
 
 returns-3 : tie.Need-returns-3
 unfolding listSays listReadings listOutput
-returns-3 c = rw (le-leb 8000 _ (c .before .before .before .before .before .before .before .before .if1 .left), le-leb 184040 _ (c .before .before .before .before .before .before .before .if2 .left)) (ap number (c .before .before .before .before .list-input .ensures .0 .behind ∙ zero-add _), (c .before .before .before .before .list-input .ensures .1, puts-headed (c .before .before .before .before .list-input .ensures .0)))
+returns-3 c =
+    rw (
+      le-leb 8000 _ (c .before .before .before .before .before .before .before .before .if1 .left),
+      le-leb 184040 _
+          (c .before .before .before .before .before .before .before .if2 .left),
+    ) (
+      ap number (c .before .before .before .before .list-input .ensures .0 .behind ∙ zero-add _),
+      (c .before .before .before .before .list-input .ensures .1, puts-headed (c .before .before .before .before .list-input .ensures .0)),
+    )
 
 pub list-spec : {M : Type 1} → statement M
 list-spec =

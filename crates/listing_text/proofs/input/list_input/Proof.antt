@@ -24,7 +24,10 @@ same-length c = search needs
 
 returns : tie.Need-returns
 unfolding refusedLine decimal
-returns c = let l = nothing-given (c .before .before .before .before .before .before .before .before .before .args .input .now) (c .before .before .before .before .before .if1 .taken) in (puts-same (c .before .before .put-bytes .ensures) (l .text), ap (λ (r : List ℕ). headed r (c .before .before .before .before .before .before .before .before .before .args .readings .now)) (l .readings))
+returns c =
+    let start = c .before .before .before .before .before .before .before .before .before in
+    let l = nothing-given (start .args .input .now) (c .before .before .before .before .before .if1 .taken) in
+    (puts-same (c .before .before .put-bytes .ensures) (l .text), ap (λ (r : List ℕ). headed r (start .args .readings .now)) (l .readings))
 
 shared-slice-read-wide : tie.Need-shared-slice-read-wide
 shared-slice-read-wide c = search needs
@@ -43,7 +46,11 @@ same-length-2 c = search needs
 
 returns-2 : tie.Need-returns-2
 unfolding refusedLine decimal
-returns-2 c = let l = wrong-mode (c .before .before .before .before .before .before .before .before .before .before .before .before .args .input .now) _ (c .before .before .before .before .before .before .wide .ensures .0) (omega arith) (c .before .before .before .before .before .if2 .taken) in (puts-same (c .before .before .put-bytes2 .ensures) (l .text), ap (λ (r : List ℕ). headed r (c .before .before .before .before .before .before .before .before .before .before .before .before .args .readings .now)) (l .readings))
+returns-2 c =
+    let start = c .before .before .before .before .before .before .before .before .before .before .before .before in
+    let l = wrong-mode (start .args .input .now) _ (c .before .before .before .before .before .before .wide .ensures .0) (omega arith)
+    (c .before .before .before .before .before .if2 .taken) in
+    (puts-same (c .before .before .put-bytes2 .ensures) (l .text), ap (λ (r : List ℕ). headed r (start .args .readings .now)) (l .readings))
 
 slice-aggregate-put-bytes-3 : tie.Need-slice-aggregate-put-bytes-3
 slice-aggregate-put-bytes-3 c = search needs
@@ -56,7 +63,11 @@ same-length-3 c = search needs
 
 returns-3 : tie.Need-returns-3
 unfolding refusedLine decimal
-returns-3 c = let l = too-long (c .before .before .before .before .before .before .before .before .before .before .before .before .before .args .input .now) _ (c .before .before .before .before .before .before .before .wide .ensures .0) (omega arith) (c .before .before .before .before .before .before .if2 .left) (c .before .before .before .before .before .if3 .taken) in (puts-same (c .before .before .put-bytes3 .ensures) (l .text), ap (λ (r : List ℕ). headed r (c .before .before .before .before .before .before .before .before .before .before .before .before .before .args .readings .now)) (l .readings))
+returns-3 c =
+    let start = c .before .before .before .before .before .before .before .before .before .before .before .before .before in
+    let l = too-long (start .args .input .now) _ (c .before .before .before .before .before .before .before .wide .ensures .0) (omega arith)
+    (c .before .before .before .before .before .before .if2 .left) (c .before .before .before .before .before .if3 .taken) in
+    (puts-same (c .before .before .put-bytes3 .ensures) (l .text), ap (λ (r : List ℕ). headed r (start .args .readings .now)) (l .readings))
 
 sub-if4 : tie.Need-sub-if4
 sub-if4 c = search needs
@@ -71,7 +82,9 @@ slice-aggregate-list-capture : tie.Need-slice-aggregate-list-capture
 slice-aggregate-list-capture c = sym (length-take-le _ _ (search needs))
 
 list-capture-requires : tie.Need-list-capture-requires
-list-capture-requires c κs = let f = c .before .before .before .before .decode .ensures .1 .1 in (omega arith, simp length-take (omega arith), omega arith)
+list-capture-requires c κs =
+    let f = c .before .before .before .before .decode .ensures .1 .1 in
+    (omega arith, simp length-take (omega arith), omega arith)
 
 same-length-4 : tie.Need-same-length-4
 same-length-4 c = search needs
@@ -80,7 +93,18 @@ same-length-5 : tie.Need-same-length-5
 same-length-5 c = search needs
 
 returns-4 : tie.Need-returns-4
-returns-4 c = let l = listed (c .before .before .before .before .before .before .before .before .before .before .before .before .before .before .before .before .before .before .args .input .now) _ (c .before .before .before .before .before .before .before .before .before .before .before .before .wide .ensures .0) (omega arith) (c .before .before .before .before .before .before .before .before .before .before .before .if2 .left) (c .before .before .before .before .before .before .before .before .before .before .if3 .left) (c .before .before .before .before .before .before .before .before .before .if4 .taken) in (puts-same (c .before .before .list-capture .ensures) (ap (captureListing _) (head-taken _ _ _ _ (c .before .before .before .before .before .before .before .decode .ensures .0) (c .before .before .before .before .before .before .before .decode .ensures .1 .0)) ∙ l .text), c .before .before .before .before .before .before .before .decode .ensures .0 ∙ ap (λ (r : List ℕ). headed r (c .before .before .before .before .before .before .before .before .before .before .before .before .before .before .before .before .before .before .args .readings .now)) (l .readings))
+returns-4 c =
+    let start = c .before .before .before .before .before .before .before .before .before .before .before .before .before .before .before .before .before .before in
+    let l = listed (start .args .input .now) _
+    (c .before .before .before .before .before .before .before .before .before .before .before .before .wide .ensures .0) (omega arith)
+    (c .before .before .before .before .before .before .before .before .before .before .before .if2 .left)
+    (c .before .before .before .before .before .before .before .before .before .before .if3 .left)
+    (c .before .before .before .before .before .before .before .before .before .if4 .taken) in (
+      puts-same (c .before .before .list-capture .ensures) (ap (captureListing _) (head-taken _ _ _ _
+          (c .before .before .before .before .before .before .before .decode .ensures .0) (c .before .before .before .before .before .before .before .decode .ensures .1 .0))
+          ∙ l .text),
+      c .before .before .before .before .before .before .before .decode .ensures .0 ∙ ap (λ (r : List ℕ). headed r (start .args .readings .now)) (l .readings),
+    )
 
 slice-aggregate-put-bytes-4 : tie.Need-slice-aggregate-put-bytes-4
 slice-aggregate-put-bytes-4 c = search needs
@@ -93,7 +117,12 @@ same-length-6 c = search needs
 
 returns-5 : tie.Need-returns-5
 unfolding refusedLine decimal
-returns-5 c = let l = no-readings (c .before .before .before .before .before .before .before .before .before .before .before .before .before .before .args .input .now) _ (c .before .before .before .before .before .before .before .before .wide .ensures .0) (omega arith) (c .before .before .before .before .before .before .before .if2 .left) (c .before .before .before .before .before .before .if3 .left) (c .before .before .before .before .before .if4 .left) in (puts-same (c .before .before .put-bytes4 .ensures) (l .text), ap (λ (r : List ℕ). headed r (c .before .before .before .before .before .before .before .before .before .before .before .before .before .before .args .readings .now)) (l .readings))
+returns-5 c =
+    let start = c .before .before .before .before .before .before .before .before .before .before .before .before .before .before in
+    let l = no-readings (start .args .input .now) _ (c .before .before .before .before .before .before .before .before .wide .ensures .0) (omega arith)
+    (c .before .before .before .before .before .before .before .if2 .left) (c .before .before .before .before .before .before .if3 .left)
+    (c .before .before .before .before .before .if4 .left) in
+    (puts-same (c .before .before .put-bytes4 .ensures) (l .text), ap (λ (r : List ℕ). headed r (start .args .readings .now)) (l .readings))
 
 pub list-input-spec : {M : Type 1} → statement M
 list-input-spec =

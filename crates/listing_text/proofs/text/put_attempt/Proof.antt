@@ -28,7 +28,14 @@ same-length : tie.Need-same-length
 same-length c = search needs
 
 returns : tie.Need-returns
-returns c = let p = puts-same (puts-then (c .before .before .before .before .before .before .before .before .before .before .before .before .before .before .before .before .before .put-decimal .ensures .0) (puts-then (c .before .before .before .before .before .before .before .before .before .before .before .put-bytes .ensures) (puts-then (c .before .before .before .before .before .before .before .put-word .ensures .0) (c .before .before .put-bytes2 .ensures)))) (good-line _ _ _ (c .before .before .before .before .before .before .before .before .before .before .before .before .before .before .if1 .taken)) in (p, omega (arith, p .behind, attempt-short (c .before .before .before .before .before .before .before .before .before .before .before .before .before .before .before .before .before .before .before .before .args .number) (saying (c .before .before .before .before .before .before .before .before .before .before .before .before .before .before .before .before .before .before .before .before .args .kind) (c .before .before .before .before .before .before .before .before .before .before .before .before .before .before .before .before .before .before .before .before .args .value))))
+returns c =
+    let start = c .before .before .before .before .before .before .before .before .before .before .before .before .before .before .before .before .before .before .before .before in
+    let p = puts-same (puts-then
+    (c .before .before .before .before .before .before .before .before .before .before .before .before .before .before .before .before .before .put-decimal .ensures .0)
+    (puts-then (c .before .before .before .before .before .before .before .before .before .before .before .put-bytes .ensures) (puts-then
+    (c .before .before .before .before .before .before .before .put-word .ensures .0) (c .before .before .put-bytes2 .ensures)))) (good-line _ _ _
+    (c .before .before .before .before .before .before .before .before .before .before .before .before .before .before .if1 .taken)) in
+    (p, omega (arith, p .behind, attempt-short (start .args .number) (saying (start .args .kind) (start .args .value))))
 
 slice-aggregate-put-bytes-3 : tie.Need-slice-aggregate-put-bytes-3
 slice-aggregate-put-bytes-3 c = search needs
@@ -40,7 +47,12 @@ same-length-2 : tie.Need-same-length-2
 same-length-2 c = search needs
 
 returns-2 : tie.Need-returns-2
-returns-2 c = let p = puts-same (puts-then (c .before .before .before .before .before .before .before .before .before .put-decimal .ensures .0) (c .before .before .put-bytes3 .ensures)) (gap-line _ _ _ (c .before .before .before .before .before .before .if1 .left) (c .before .before .before .before .before .if2 .taken)) in (p, omega (arith, p .behind, attempt-short (c .before .before .before .before .before .before .before .before .before .before .before .before .args .number) (saying (c .before .before .before .before .before .before .before .before .before .before .before .before .args .kind) (c .before .before .before .before .before .before .before .before .before .before .before .before .args .value))))
+returns-2 c =
+    let start = c .before .before .before .before .before .before .before .before .before .before .before .before in
+    let p = puts-same (puts-then (c .before .before .before .before .before .before .before .before .before .put-decimal .ensures .0)
+    (c .before .before .put-bytes3 .ensures)) (gap-line _ _ _ (c .before .before .before .before .before .before .if1 .left)
+    (c .before .before .before .before .before .if2 .taken)) in
+    (p, omega (arith, p .behind, attempt-short (start .args .number) (saying (start .args .kind) (start .args .value))))
 
 slice-aggregate-put-bytes-4 : tie.Need-slice-aggregate-put-bytes-4
 slice-aggregate-put-bytes-4 c = search needs
@@ -52,7 +64,12 @@ same-length-3 : tie.Need-same-length-3
 same-length-3 c = search needs
 
 returns-3 : tie.Need-returns-3
-returns-3 c = let p = puts-same (puts-then (c .before .before .before .before .before .before .before .before .before .before .put-decimal .ensures .0) (c .before .before .put-bytes4 .ensures)) (cut-line _ _ _ (c .before .before .before .before .before .before .before .if1 .left) (c .before .before .before .before .before .before .if2 .left) (c .before .before .before .before .before .if3 .taken)) in (p, omega (arith, p .behind, attempt-short (c .before .before .before .before .before .before .before .before .before .before .before .before .before .args .number) (saying (c .before .before .before .before .before .before .before .before .before .before .before .before .before .args .kind) (c .before .before .before .before .before .before .before .before .before .before .before .before .before .args .value))))
+returns-3 c =
+    let start = c .before .before .before .before .before .before .before .before .before .before .before .before .before in
+    let p = puts-same (puts-then (c .before .before .before .before .before .before .before .before .before .before .put-decimal .ensures .0)
+    (c .before .before .put-bytes4 .ensures)) (cut-line _ _ _ (c .before .before .before .before .before .before .before .if1 .left)
+    (c .before .before .before .before .before .before .if2 .left) (c .before .before .before .before .before .if3 .taken)) in
+    (p, omega (arith, p .behind, attempt-short (start .args .number) (saying (start .args .kind) (start .args .value))))
 
 slice-aggregate-put-bytes-5 : tie.Need-slice-aggregate-put-bytes-5
 slice-aggregate-put-bytes-5 c = search needs
@@ -64,7 +81,12 @@ same-length-4 : tie.Need-same-length-4
 same-length-4 c = search needs
 
 returns-4 : tie.Need-returns-4
-returns-4 c = let p = puts-same (puts-then (c .before .before .before .before .before .before .before .before .before .before .put-decimal .ensures .0) (c .before .before .put-bytes5 .ensures)) (check-line _ _ _ (c .before .before .before .before .before .before .before .if1 .left) (c .before .before .before .before .before .before .if2 .left) (c .before .before .before .before .before .if3 .left)) in (p, omega (arith, p .behind, attempt-short (c .before .before .before .before .before .before .before .before .before .before .before .before .before .args .number) (saying (c .before .before .before .before .before .before .before .before .before .before .before .before .before .args .kind) (c .before .before .before .before .before .before .before .before .before .before .before .before .before .args .value))))
+returns-4 c =
+    let start = c .before .before .before .before .before .before .before .before .before .before .before .before .before in
+    let p = puts-same (puts-then (c .before .before .before .before .before .before .before .before .before .before .put-decimal .ensures .0)
+    (c .before .before .put-bytes5 .ensures)) (check-line _ _ _ (c .before .before .before .before .before .before .before .if1 .left)
+    (c .before .before .before .before .before .before .if2 .left) (c .before .before .before .before .before .if3 .left)) in
+    (p, omega (arith, p .behind, attempt-short (start .args .number) (saying (start .args .kind) (start .args .value))))
 
 pub put-attempt-spec : {M : Type 1} → statement M
 put-attempt-spec =

@@ -17,13 +17,24 @@ slice-aggregate-put-bytes : tie.Need-slice-aggregate-put-bytes
 slice-aggregate-put-bytes c = search needs
 
 put-bytes-requires : tie.Need-put-bytes-requires
-put-bytes-requires c κs = omega (arith, ap length (as-decimal (c .before .before .before .before .before .args .number) _ _ (c .before .before .before .before .before .pre .0) (c .before .before .decimal .ensures .1 .0) (c .before .before .decimal .ensures .1 .1)), decimal-short (c .before .before .before .before .before .args .number))
+put-bytes-requires c κs =
+    let start = c .before .before .before .before .before in
+    omega (
+      arith,
+      ap length (as-decimal (start .args .number) _ _ (start .pre .0) (c .before .before .decimal .ensures .1 .0)
+          (c .before .before .decimal .ensures .1 .1)),
+      decimal-short (start .args .number),
+    )
 
 same-length : tie.Need-same-length
 same-length c = search needs
 
 returns : tie.Need-returns
-returns c = let p = puts-same (c .before .before .put-bytes .ensures) (as-decimal (c .before .before .before .before .before .before .before .before .args .number) _ _ (c .before .before .before .before .before .before .before .before .pre .0) (c .before .before .before .before .before .decimal .ensures .1 .0) (c .before .before .before .before .before .decimal .ensures .1 .1)) in (p, omega (arith, p .behind, decimal-short (c .before .before .before .before .before .before .before .before .args .number)))
+returns c =
+    let start = c .before .before .before .before .before .before .before .before in
+    let p = puts-same (c .before .before .put-bytes .ensures) (as-decimal (start .args .number) _ _ (start .pre .0)
+    (c .before .before .before .before .before .decimal .ensures .1 .0) (c .before .before .before .before .before .decimal .ensures .1 .1)) in
+    (p, omega (arith, p .behind, decimal-short (start .args .number)))
 
 pub put-decimal-spec : {M : Type 1} → statement M
 put-decimal-spec =

@@ -24,7 +24,12 @@ same-length : tie.Need-same-length
 same-length c = search needs
 
 returns : tie.Need-returns
-returns c = let p = puts-same (puts-then (c .before .before .before .before .before .before .before .before .before .before .before .put-bytes .ensures) (puts-then (c .before .before .before .before .before .before .before .put-decimal .ensures .0) (c .before .before .put-bytes2 .ensures))) (names-lsm _ _ (c .before .before .before .before .before .before .before .before .before .before .before .before .before .before .if1 .taken)) in (p, omega (arith, p .behind, first-short (c .before .before .before .before .before .before .before .before .before .before .before .before .before .before .before .before .args .mode) (c .before .before .before .before .before .before .before .before .before .before .before .before .before .before .before .before .args .edges)))
+returns c =
+    let start = c .before .before .before .before .before .before .before .before .before .before .before .before .before .before .before .before in
+    let p = puts-same (puts-then (c .before .before .before .before .before .before .before .before .before .before .before .put-bytes .ensures) (puts-then
+    (c .before .before .before .before .before .before .before .put-decimal .ensures .0) (c .before .before .put-bytes2 .ensures))) (names-lsm _ _
+    (c .before .before .before .before .before .before .before .before .before .before .before .before .before .before .if1 .taken)) in
+    (p, omega (arith, p .behind, first-short (start .args .mode) (start .args .edges)))
 
 slice-aggregate-put-bytes-3 : tie.Need-slice-aggregate-put-bytes-3
 slice-aggregate-put-bytes-3 c = search needs
@@ -45,7 +50,12 @@ same-length-2 : tie.Need-same-length-2
 same-length-2 c = search needs
 
 returns-2 : tie.Need-returns-2
-returns-2 c = let p = puts-same (puts-then (c .before .before .before .before .before .before .before .before .before .before .before .put-bytes3 .ensures) (puts-then (c .before .before .before .before .before .before .before .put-decimal2 .ensures .0) (c .before .before .put-bytes4 .ensures))) (names-hsm _ _ (c .before .before .before .before .before .before .before .before .before .before .before .before .before .before .if1 .left)) in (p, omega (arith, p .behind, first-short (c .before .before .before .before .before .before .before .before .before .before .before .before .before .before .before .before .args .mode) (c .before .before .before .before .before .before .before .before .before .before .before .before .before .before .before .before .args .edges)))
+returns-2 c =
+    let start = c .before .before .before .before .before .before .before .before .before .before .before .before .before .before .before .before in
+    let p = puts-same (puts-then (c .before .before .before .before .before .before .before .before .before .before .before .put-bytes3 .ensures) (puts-then
+    (c .before .before .before .before .before .before .before .put-decimal2 .ensures .0) (c .before .before .put-bytes4 .ensures))) (names-hsm _ _
+    (c .before .before .before .before .before .before .before .before .before .before .before .before .before .before .if1 .left)) in
+    (p, omega (arith, p .behind, first-short (start .args .mode) (start .args .edges)))
 
 pub put-first-line-spec : {M : Type 1} → statement M
 put-first-line-spec =

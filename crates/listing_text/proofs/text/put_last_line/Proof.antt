@@ -34,7 +34,13 @@ same-length c = search needs
 
 returns : tie.Need-returns
 unfolding lastLine
-returns c = puts-same (puts-then (c .before .before .before .before .before .before .before .before .before .before .before .before .before .before .before .before .before .before .before .before .put-bytes .ensures) (puts-then (c .before .before .before .before .before .before .before .before .before .before .before .before .before .before .before .before .put-decimal .ensures .0) (puts-then (c .before .before .before .before .before .before .before .before .before .before .before .put-bytes2 .ensures) (puts-then (c .before .before .before .before .before .before .before .put-decimal2 .ensures .0) (c .before .before .put-bytes3 .ensures))))) refl
+returns c =
+    puts-same (puts-then
+    (c .before .before .before .before .before .before .before .before .before .before .before .before .before .before .before .before .before .before .before .before .put-bytes .ensures)
+    (puts-then
+    (c .before .before .before .before .before .before .before .before .before .before .before .before .before .before .before .before .put-decimal .ensures .0)
+    (puts-then (c .before .before .before .before .before .before .before .before .before .before .before .put-bytes2 .ensures) (puts-then
+    (c .before .before .before .before .before .before .before .put-decimal2 .ensures .0) (c .before .before .put-bytes3 .ensures))))) refl
 
 pub put-last-line-spec : {M : Type 1} → statement M
 put-last-line-spec =

@@ -17,13 +17,24 @@ slice-aggregate-put-bytes : tie.Need-slice-aggregate-put-bytes
 slice-aggregate-put-bytes c = search needs
 
 put-bytes-requires : tie.Need-put-bytes-requires
-put-bytes-requires c κs = omega (arith, ap length (as-word (c .before .before .before .before .before .args .word) _ _ (c .before .before .hex .ensures .1 .0) (c .before .before .hex .ensures .1 .1)), hex-length (c .before .before .before .before .before .args .word))
+put-bytes-requires c κs =
+    let start = c .before .before .before .before .before in
+    omega (
+      arith,
+      ap length (as-word (start .args .word) _ _ (c .before .before .hex .ensures .1 .0) (c .before .before .hex .ensures .1 .1)),
+      hex-length
+          (start .args .word),
+    )
 
 same-length : tie.Need-same-length
 same-length c = search needs
 
 returns : tie.Need-returns
-returns c = let p = puts-same (c .before .before .put-bytes .ensures) (as-word (c .before .before .before .before .before .before .before .before .args .word) _ _ (c .before .before .before .before .before .hex .ensures .1 .0) (c .before .before .before .before .before .hex .ensures .1 .1)) in (p, omega (arith, p .behind, hex-length (c .before .before .before .before .before .before .before .before .args .word)))
+returns c =
+    let start = c .before .before .before .before .before .before .before .before in
+    let p = puts-same (c .before .before .put-bytes .ensures) (as-word (start .args .word) _ _ (c .before .before .before .before .before .hex .ensures .1 .0)
+    (c .before .before .before .before .before .hex .ensures .1 .1)) in
+    (p, omega (arith, p .behind, hex-length (start .args .word)))
 
 pub put-word-spec : {M : Type 1} → statement M
 put-word-spec =
