@@ -3,7 +3,7 @@ ghost use mathlib.Core.Path.{_≡_};
 ghost use Prim.Native.Nat.{_+_, _≤_};
 ghost use lib.ListN.{length};
 use line::LineMode;
-use line::Reader;
+use reading::Reader;
 use refusal::Answer;
 use refusal::Refusal;
 
@@ -122,7 +122,7 @@ fn read(
     let count = size - 2;
     take_entries(cells, from + 2, count, list);
     let place = cells[from + 1] as usize;
-    let outcome = line::read(&list[..count], place, mode_of(cells[from]));
+    let outcome = reading::read(&list[..count], place, mode_of(cells[from]));
     let answer = outcome.answer;
     tell_two(answers, told, answer.packed(), outcome.next as u64)
 }

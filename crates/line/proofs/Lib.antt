@@ -1,3 +1,4 @@
+pub mod LentTail
 pub mod SentBits
 pub mod PagePattern
 pub mod EdgeCount
@@ -5,20 +6,4 @@ pub mod WritingLoop
 pub mod WrittenList
 pub mod LineExamples
 pub mod Windows
-pub mod ReadExamples
-pub mod PatternLaws
-pub mod CaptureLaws
 pub mod Damage
-pub mod EdgeRuns
-pub mod GapMachine
-pub mod JudgedGaps
-pub mod SentGaps
-pub mod ReadBits
-pub mod ReadBack
-pub mod OnlyPages
-pub mod ReadCaptures
-pub mod SinceOpened
-pub mod ClockShift
-pub mod WriteThenRead
-pub mod ReadTheorem
-pub mod Walk

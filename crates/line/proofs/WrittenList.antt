@@ -11,7 +11,7 @@ use Rattle.refusal.specs.Answers.{Said, refused, number}
 use Rattle.line.specs.declared.modes.LineMode.{LineMode}
 use Rattle.line.specs.Transitions.{readings, edgeCount, transitions}
 use Rattle.line.specs.Writing.{placed, saysIn, leavesIn}
-use Rattle.line.proofs.CaptureLaws.{whole-tail}
+use Rattle.line.proofs.LentTail.{whole-tail}
 use Rattle.line.proofs.EdgeCount.{edge-count}
 
 module _ (m : LineMode) (list : List ℕ) (place w first : ℕ) where

@@ -68,7 +68,7 @@ impl LineMode {
     }
 
     // How many positions a gap counts as, or that it is quiet, or unfit.
-    pub(crate) fn judgement(self, gap: u32) -> Judgement
+    pub fn judgement(self, gap: u32) -> Judgement
         ensures { λ r. ⌜ r ≡ judgementOf self gap ⌝ }
     {
         let g = gap as u64;
@@ -94,7 +94,7 @@ impl LineMode {
 }
 
 // The mode of a number: 0 is HSM, 1 is LSM.
-pub(crate) fn mode_of(number: u32) -> Found
+pub fn mode_of(number: u32) -> Found
     ensures { λ r. ⌜ r ≡ modeOf number ⌝ }
 {
     if number == 0 {

@@ -10,11 +10,11 @@ use lib.ListN.{length, drop, getD, length-drop}
 use lib.Seq.{drop-cons}
 use Rattle.refusal.specs.Answers.{Said}
 use Rattle.line.specs.declared.modes.LineMode.{LineMode}
-use Rattle.line.specs.declared.reader.Reader.{Reader}
-use Rattle.line.specs.declared.reader.Reader.the-variants.{Fresh, Open}
+use Rattle.reading.specs.declared.reader.Reader.{Reader}
+use Rattle.reading.specs.declared.reader.Reader.the-variants.{Fresh, Open}
 use Rattle.line.specs.Modes.{modeOf, hsmMode, lsmMode}
-use Rattle.line.specs.Reading.{edgeOf}
-use Rattle.line.specs.Captures.{Attempt, isOpen, opensAt, attemptOf, readIn, readOf}
+use Rattle.reading.specs.Reading.{edgeOf}
+use Rattle.reading.specs.Captures.{Attempt, isOpen, opensAt, attemptOf, readIn, readOf}
 use Rattle.listing_text.specs.Listing.{attemptsFrom}
 
 -- A place within a stretch of so many readings.

@@ -12,14 +12,14 @@ use Rattle.page.specs.CheckBits.{agrees}
 use Rattle.line.specs.declared.modes.LineMode.{LineMode}
 use Rattle.line.specs.declared.modes.Judgement.{Judgement}
 use Rattle.line.specs.declared.modes.Judgement.the-variants.{Positions, Quiet, Unfit}
-use Rattle.line.specs.declared.reader.Reader.{Reader}
-use Rattle.line.specs.declared.reader.Reader.the-variants.{Fresh, Open, Dropping}
+use Rattle.reading.specs.declared.reader.Reader.{Reader}
+use Rattle.reading.specs.declared.reader.Reader.the-variants.{Fresh, Open, Dropping}
 use Rattle.line.specs.Clock.{timeBetween}
 use Rattle.line.specs.Gaps.{judgementOf}
 use Rattle.line.specs.Modes.{hsmMode, lsmMode, modeOf}
-use Rattle.line.specs.Pattern.{asks}
-use Rattle.line.specs.Reading.{Brings, withBit, arrives, goesOn, dropsOn, edgeOf}
-use Rattle.line.specs.Captures.{Attempt, attemptOf, readIn, readOf}
+use Rattle.reading.specs.Pattern.{asks}
+use Rattle.reading.specs.Reading.{Brings, withBit, arrives, goesOn, dropsOn, edgeOf}
+use Rattle.reading.specs.Captures.{Attempt, attemptOf, readIn, readOf}
 
 -- What is said at the end of an attempt.
 pub data Ending : Said → Type 0 where

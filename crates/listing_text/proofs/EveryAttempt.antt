@@ -9,8 +9,8 @@ use lib.Dec.{ltb}
 use lib.ListN.{length}
 use Rattle.refusal.specs.Answers.{Said}
 use Rattle.line.specs.Modes.{hsmMode, lsmMode, modeOf}
-use Rattle.line.specs.Captures.{readOf}
-use Rattle.line.proofs.Walk.{toldFresh, attemptsBy, attempts-told}
+use Rattle.reading.specs.Captures.{readOf}
+use Rattle.reading.proofs.Walk.{toldFresh, attemptsBy, attempts-told}
 use Rattle.listing_text.specs.Listing.{attemptsFrom, attempts}
 
 same-walk : (more mode : ℕ) (capture : List ℕ) (place : ℕ) → attemptsFrom more mode capture place ≡ attemptsBy (readOf mode capture) (length capture) more place

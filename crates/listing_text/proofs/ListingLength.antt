@@ -9,7 +9,7 @@ use lib.Dec.{eqb, ltb}
 use lib.ListN.{length, take, drop, length-append}
 use lib.Seq.{take-append-seam}
 use Rattle.refusal.specs.Answers.{Said, number, packed}
-use Rattle.line.specs.Captures.{readOf}
+use Rattle.reading.specs.Captures.{readOf}
 use Rattle.listing_text.specs.Placing.{headed}
 use Rattle.listing_text.specs.Words.{decimal}
 use Rattle.listing_text.specs.Listing.{readingsOf, attemptsFrom, attempts, attemptLine, attemptLines, goodOnes, badOnes, firstLine, lastLine, captureListing, refusedLine, listing}

@@ -7,7 +7,7 @@ use native.Mathlib.Nat.{zero-add, add-zero}
 use native.Mathlib.Omega.{arith}
 use lib.ListN.{length}
 use Rattle.refusal.specs.Answers.{Said}
-use Rattle.line.specs.Captures.{readOf}
+use Rattle.reading.specs.Captures.{readOf}
 use Rattle.listing_text.specs.Placing.{Puts}
 use Rattle.listing_text.specs.Listing.{attemptsFrom, attempts, isGood, attemptLine, attemptLines, goodOnes, badOnes, firstLine, lastLine, captureListing}
 use Rattle.listing_text.proofs.PlacingLaws.{same-long, puts-same, puts-then, puts-none}

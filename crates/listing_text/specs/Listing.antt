@@ -5,7 +5,7 @@ use mathlib.Core.List.{List, [], _∷_, _++_}
 use lib.Dec.{eqb, ltb}
 use lib.ListN.{length, getD}
 use Rattle.refusal.specs.Answers.{Said}
-use Rattle.line.specs.Captures.{readOf}
+use Rattle.reading.specs.Captures.{readOf}
 use Rattle.listing_text.specs.Words.{lineFeed, space, modeWord, modeName, edgesWord, goodWord, gapWord, cutWord, checkWord, pagesWord, badWord, refusedWord, decimal, hexDigits}
 
 -- "readings of four bytes, low first". Fewer than four bytes are no reading.

@@ -20,7 +20,7 @@ pub(crate) fn list_capture(capture: &[u32], mode: u32, output: &mut [u8]) -> usi
     let mut pages: usize = 0;
     let mut bad: usize = 0;
     while place < capture.len() {
-        let attempt = line::read(capture, place, mode);
+        let attempt = reading::read(capture, place, mode);
         let answer = attempt.answer;
         let packed = answer.packed();
         let kind = packed / KIND;

@@ -6,7 +6,7 @@ use lib.Dec.{eqb}
 use borrow.Author.Tests.{eq-eqb, ne-eqb}
 use Rattle.refusal.specs.Answers.{Said, packed}
 use Rattle.refusal.proofs.OneAnswer.{kind-of-packed}
-use Rattle.line.specs.Captures.{Attempt}
+use Rattle.reading.specs.Captures.{Attempt}
 use Rattle.maststep.specs.NextPlace.{nextLeft}
 
 module _ (a : Attempt) (old answer : ℕ) (is : answer ≡ packed (a .says)) where

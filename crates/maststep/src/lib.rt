@@ -4,7 +4,7 @@ ghost use Rattle.refusal.specs.Answers.{packed};
 ghost use Rattle.page.specs.Checked.{checked};
 ghost use Rattle.line.specs.Gaps.{judged};
 ghost use Rattle.line.specs.Writing.{writeSays, writeLeaves};
-ghost use Rattle.line.specs.Captures.{readOf};
+ghost use Rattle.reading.specs.Captures.{readOf};
 ghost use Rattle.maststep.specs.NextPlace.{nextLeft};
 
 // The check bits of a word, or 13.
@@ -47,7 +47,7 @@ pub extern "C" fn maststep_read(list: &[u32], place: usize, mode: u32, next: &mu
     ensures says { λ r. ⌜ r ≡ packed (readOf mode (now (list .entry)) place .says) ⌝ }
     ensures leaves { λ _. ⌜ now (next .exit) ≡ nextLeft (readOf mode (now (list .entry)) place) (now (next .entry)) ⌝ }
 {
-    let outcome = line::read(list, place, mode);
+    let outcome = reading::read(list, place, mode);
     let answer = outcome.answer;
     let packed = answer.packed();
     let kind = packed / KIND;

@@ -1,0 +1,16 @@
+pub mod ReadExamples
+pub mod PatternLaws
+pub mod CaptureLaws
+pub mod EdgeRuns
+pub mod GapMachine
+pub mod JudgedGaps
+pub mod SentGaps
+pub mod ReadBits
+pub mod ReadBack
+pub mod OnlyPages
+pub mod ReadCaptures
+pub mod SinceOpened
+pub mod ClockShift
+pub mod WriteThenRead
+pub mod ReadTheorem
+pub mod Walk

@@ -1,0 +1,23 @@
+-- Worked examples of reading, computed from the definitions.
+use mathlib.Core.Path.{_≡_, refl}
+use mathlib.Core.Bool.{xor}
+use mathlib.Core.List.{[], _∷_}
+use Rattle.page.specs.CheckBits.{checkBits, checkList, remainder, agrees}
+use Rattle.refusal.specs.Answers.{pageRead, refused}
+use Rattle.reading.specs.declared.reader.Reader.the-variants.{Fresh}
+use Rattle.line.specs.Modes.{hsmMode, lsmMode}
+use Rattle.line.specs.Gaps.{judgementOf}
+use Rattle.line.specs.Transitions.{sentBits, hasTransition, positionsTo, transitions, readings}
+use Rattle.reading.specs.Pattern.{always, byBit, isClock, asks}
+use Rattle.reading.specs.Reading.{arrives, goesOn, dropsOn, edgeOf}
+use Rattle.reading.specs.Captures.{ends, opensAt, attemptOf}
+
+pub record ReadExamples : Type 0 where
+  pub zero-high : attemptOf hsmMode Fresh (readings hsmMode 0 4294967290) 0 ≡ ends (pageRead 0) 81
+  pub word-low : attemptOf lsmMode Fresh (readings lsmMode 0x850001 7) 0 ≡ ends (pageRead 0x850001) 98
+  pub cut : attemptOf hsmMode Fresh (0 ∷ 30 ∷ 60 ∷ []) 0 ≡ ends (refused 2) 3
+  pub gap : attemptOf hsmMode Fresh (0 ∷ 30 ∷ 60 ∷ 90 ∷ 300 ∷ []) 0 ≡ ends (refused 1) 4
+
+pub read-examples : ReadExamples
+unfolding readings transitions positionsTo hasTransition sentBits checkBits checkList remainder agrees xor judgementOf always byBit isClock asks arrives goesOn dropsOn edgeOf opensAt attemptOf
+read-examples = record { zero-high = refl; word-low = refl; cut = refl; gap = refl }

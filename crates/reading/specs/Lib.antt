@@ -1,0 +1,3 @@
+pub mod Pattern
+pub mod Reading
+pub mod Captures
