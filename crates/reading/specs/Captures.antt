@@ -51,7 +51,7 @@ attemptOf m r (x ∷ rest) at =
     let ended = ends (brought .says) (cond (isOpen (brought .reader)) at (opensAt m (brought .reader) rest (at + 1))) in
     cond (eqb (brought .says .kind) 0) later ended
 
--- The read call in a mode. "12 Room: place past the end"; "It answers nothing if the place is the length".
+-- The read call in a mode. Row 12 of the refusals, Room: "place past the end"; "It answers nothing if the place is the length".
 unfoldable pub readIn : LineMode → List ℕ → ℕ → Attempt
 readIn m capture place =
     cond (ltb (length capture) place) (ends (refused 12) place)
