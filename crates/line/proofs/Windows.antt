@@ -22,7 +22,7 @@ hsm-apart = record { narrow = omega arith; above = omega arith }
 pub lsm-apart : Apart lsmMode
 lsm-apart = record { narrow = omega arith; above = omega arith }
 
--- A gap in the window around a number of positions, and one below or above it.
+-- A gap in the window of k positions, ends included.
 pub record Near (m : LineMode) (k gap : ℕ) : Type 0 where
   pub least : k * m .spacing ≤ gap + m .tolerance
   pub most : gap ≤ k * m .spacing + m .tolerance

@@ -8,11 +8,12 @@ use Rattle.refusal.specs.Answers.{Said, refused, number}
 use Rattle.listing_text.specs.Placing.{headed}
 use Rattle.listing_text.specs.Listing.{listing, listedReadings}
 
--- Whether the two lent lists hold every listing: 8 000 readings; a first and a last line of 20 bytes and 8 000 lines of 23 bytes.
+-- Whether the two lent lists hold every listing: 8 000 readings; a first and a last line of 20 bytes each and 8 000 lines of 23 bytes.
 abbrev pub roomy : List ℕ → List ℕ → Bool
 roomy readings output = leb 8000 (length readings) && leb 184040 (length output)
 
--- The number of bytes of the listing; 12, Room, if the lent lists are too short, and then they are left as they were.
+-- The number of bytes of the listing. If a lent list is too short for the longest listing, 12, Room, whatever the input, and both are left
+-- as they were. (14, 12 and 15 for the input are text, and this call does not answer them.)
 unfoldable pub listSays : List ℕ → List ℕ → List ℕ → Said
 listSays input readings output = cond (roomy readings output) (number (length (listing input))) (refused 12)
 

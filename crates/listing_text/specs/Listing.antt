@@ -21,7 +21,7 @@ abbrev pub readingFrom : List ℕ → ℕ → ℕ
 readingFrom bytes at = getD bytes at 0 + 256 * getD bytes (at + 1) 0 + 65536 * getD bytes (at + 2) 0 + 16777216 * getD bytes (at + 3) 0
 
 -- What is said at each attempt of a capture, in order: the read call goes from place to next place until the place is the length. The
--- first argument bounds the number of attempts. Each next place is greater than the place, so as many as there are readings suffice.
+-- first argument bounds the number of attempts. In modes 0 and 1 each next place is greater than the place, so as many as there are readings suffice.
 unfoldable pub attemptsFrom : ℕ → ℕ → List ℕ → ℕ → List Said
 attemptsFrom zero mode capture place = []
 attemptsFrom (suc more) mode capture place =
@@ -68,7 +68,7 @@ firstLine mode edges = modeWord ++ (modeName mode ++ (edgesWord ++ (decimal edge
 unfoldable pub lastLine : ℕ → ℕ → List ℕ
 lastLine pages bad = pagesWord ++ (decimal pages ++ (badWord ++ (decimal bad ++ lineFeed)))
 
--- The listing of a capture. "With no readings the two outer lines stand alone, all counts 0."
+-- The listing of a capture, asked in modes 0 and 1 and of at most 8 000 readings only. "With no readings the two outer lines stand alone, all counts 0."
 unfoldable pub captureListing : ℕ → List ℕ → List ℕ
 captureListing mode capture =
     let found = attempts mode capture in

@@ -1,4 +1,4 @@
--- What the read call leaves at `*next`: where the next attempt opens; "on 14 and 12 it is left as it was".
+-- What the read call leaves at `*next`, as the fixed interfaces have it: where the next attempt opens; "on 14 and 12 it is left as it was".
 use Prim.Native.Nat.{ℕ}
 use mathlib.Core.Bool.{cond, _||_}
 use lib.Dec.{eqb}

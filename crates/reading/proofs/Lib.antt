@@ -13,4 +13,5 @@ pub mod SinceOpened
 pub mod ClockShift
 pub mod WriteThenRead
 pub mod ReadTheorem
+pub mod ReadCalls
 pub mod Walk

@@ -41,8 +41,9 @@ opensAt m r [] at = at
 opensAt m r (x ∷ rest) at =
     let later = opensAt m (edgeOf m r x .reader) rest (at + 1) in cond (isOpen (edgeOf m r x .reader)) at later
 
--- "the first attempt's outcome, the end of the capture counting as quiet": the first thing that is said; at the end of the list, Cut.
--- An attempt that an edge ends by Cut is followed by the one that this edge opens.
+-- "the first attempt's outcome, the end of the capture counting as quiet": the first thing that is said; at the end of the list, Cut. (The
+-- read call asks this of a fresh reader and at least one edge, so an attempt is open there.) The edge that ends an attempt by Cut opens
+-- the next, so the next place is its own.
 unfoldable pub attemptOf : LineMode → Reader → List ℕ → ℕ → Attempt
 attemptOf m r [] at = ends (refused 2) at
 attemptOf m r (x ∷ rest) at =
@@ -57,7 +58,7 @@ readIn m capture place =
     cond (ltb (length capture) place) (ends (refused 12) place)
     (cond (eqb place (length capture)) (ends nothing place) (attemptOf m Fresh (drop place capture) place))
 
--- The read call. On a refusal, as where nothing is left to read, the next place is the place itself.
+-- The read call. 01 names no next place on a refusal; here it is the place itself, which may lie past the end.
 abbrev pub readBy : Found → List ℕ → ℕ → Attempt
 readBy (Known m) capture place = readIn m capture place
 readBy Unknown capture place = ends (refused 14) place

@@ -17,12 +17,13 @@ byBit p = leb 28 p && (leb p 154 && not (odd p))
 unfoldable pub isClock : ℕ → Bool
 isClock p = leb 27 p && (leb p 153 && odd p)
 
--- Whether no page has to have a transition at the n positions after p.
+-- Whether none of the n positions after p is one where every page has a transition.
 abbrev pub free : Bool → ℕ → ℕ → Bool
 free slow p zero = true
 free slow p (suc n) = not (always slow (p + suc n)) && free slow p n
 
--- "Each further gap must be what the pattern asks": an edge may stand at p and at p + k, and none has to stand between them.
+-- "Each further gap must be what the pattern asks": an edge may stand at p and at p + k, and none has to stand between them. Two positions
+-- after a clock pass over its bit. Where no page has an edge at p, on a record that no call has made, no gap is right.
 unfoldable pub asks : Bool → ℕ → ℕ → Bool
 asks slow p k =
     (always slow p || byBit p) && ((always slow (p + k) || byBit (p + k)) && free slow p (k - 1))

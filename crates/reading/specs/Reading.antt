@@ -28,7 +28,8 @@ pub record Gives (r : Step) (b : Brings) : Type 0 where
 abbrev pub bring : Said → Reader → Brings
 bring says reader = record { says = says; reader = reader }
 
--- The 64 bits of a page, the first that came the lowest, with one more: "after a clock, two positions is a zero, one is a one".
+-- The bits that have come, in a number of 64 bits: a new one enters at the top and moves the others one down, so that after 64 the first
+-- that came is the lowest, and nothing is left of what the number held before. "after a clock, two positions is a zero, one is a one"
 abbrev pub withBit : ℕ → ℕ → ℕ → ℕ
 withBit at k bits = cond (isClock at) (bits / 2 + cond (eqb k 1) (2 ^ 63) 0) bits
 
