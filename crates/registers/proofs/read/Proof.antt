@@ -1,0 +1,22 @@
+use mathlib.Core.Path.{refl, sym, _∙_}
+use borrow.Author.Needs.{needs}
+use Rattle.state.proofs.Dues.{as-due}
+use Rattle.registers.specs.Registers.{readDue}
+use Rattle.registers.proofs.read.Statement.{statement}
+use Rattle.registers.proofs.read.Tie as tie
+
+pub read-spec : {M : Type 1} → statement M
+unfolding readDue
+read-spec =
+    tie.close
+    (tie.spec
+    (λ c κs. search needs) (λ c. search needs) (λ c κs. search needs) (λ c κs. search needs) (λ c. search needs) (λ c κs. search needs) (λ c. search needs) (λ c κs. search needs) (λ c. search needs) (λ c κs. search needs) (λ c. search needs) (λ c κs. search needs) (λ c. search needs) (λ c κs. search needs) (λ c. search needs) (λ c κs. search needs) (λ c. search needs) (λ c κs. search needs) (λ c. search needs) (λ c κs. search needs)
+    (λ c. as-due (c .shown .ensures) (simp (c .before .control-value .ensures, sym (c .before .before .before .before .register-of .ensures) ∙ c .before .before .enum-told .given .1)))
+    (λ c. as-due (c .read-status .ensures) (simp (sym (c .before .before .before .register-of .ensures) ∙ c .before .enum-told2 .given .1)))
+    (λ c. as-due (c .shown2 .ensures) (simp (sym (c .before .before .before .register-of .ensures) ∙ c .before .enum-told3 .given .1)))
+    (λ c. as-due (c .shown3 .ensures) (simp (sym (c .before .before .before .register-of .ensures) ∙ c .before .enum-told4 .given .1)))
+    (λ c. as-due (c .shown4 .ensures) (simp (sym (c .before .before .before .register-of .ensures) ∙ c .before .enum-told5 .given .1)))
+    (λ c. as-due (c .shown5 .ensures) (simp (sym (c .before .before .before .register-of .ensures) ∙ c .before .enum-told6 .given .1)))
+    (λ c. as-due (c .shown6 .ensures) (simp (sym (c .before .before .before .register-of .ensures) ∙ c .before .enum-told7 .given .1)))
+    (λ c. as-due (c .shown7 .ensures) (simp (sym (c .before .before .before .register-of .ensures) ∙ c .before .enum-told8 .given .1)))
+    (λ c. as-due (c .missing .ensures) (simp (sym (c .before .before .before .register-of .ensures) ∙ c .before .enum-told9 .given .1))))

@@ -1,0 +1,11 @@
+use borrow.Author.Needs.{needs}
+use Rattle.state.proofs.Dues.{as-due}
+use Rattle.registers.proofs.read_status.Statement.{statement}
+use Rattle.registers.proofs.read_status.Tie as tie
+
+pub read-status-spec : {M : Type 1} → statement M
+read-status-spec =
+    tie.close
+    (tie.spec
+    (λ c κs. search needs) (λ c κs. search needs) (λ c κs. search needs) (λ c κs. search needs)
+    (λ c. as-due (c .shown .ensures) (simp (c .before .after-status .ensures, c .before .before .status-value .ensures, c .before .before .before .is-up .ensures))))

@@ -1,0 +1,10 @@
+use borrow.Author.Needs.{needs}
+use Rattle.state.proofs.Device.fresh.Statement.{statement}
+use Rattle.state.proofs.Device.fresh.Tie as tie
+
+pub fresh-spec : {M : Type 1} → statement M
+fresh-spec =
+    tie.close
+    (tie.spec
+    (λ c κs. search needs) (λ c κs. search needs) (λ c κs. search needs)
+    (λ c. simp (c .no-talk .ensures, c .before .no-page2 .ensures, c .before .before .no-page .ensures)))

@@ -1,0 +1,130 @@
+-- 01, "The negotiation (LSM)": what a device remembers, and what entering Break or Off leaves of it.
+use Prim.Native.Nat.{ℕ}
+use mathlib.Core.Path.{_≡_}
+use mathlib.Core.Bool.{Bool, true, false}
+use Rattle.refusal.specs.Answers.{Said, said}
+use Rattle.refusal.specs.declared.Answer.{Answer}
+use Rattle.refusal.specs.declared.Answer.the-variants.{Nothing}
+use Rattle.reading.specs.declared.reader.Reader.{Reader}
+use Rattle.reading.specs.declared.reader.Reader.the-variants.{Fresh}
+use Rattle.state.specs.declared.State.{State}
+use Rattle.state.specs.declared.State.the-variants.{Off, Break, Ability, Ack, Complete, CheckLink, Up}
+use Rattle.state.specs.declared.PageRegisters.{PageRegisters}
+use Rattle.state.specs.declared.Flags.{Flags}
+use Rattle.state.specs.declared.Talk.{Talk}
+use Rattle.state.specs.declared.Device.{Device}
+use Rattle.state.specs.declared.Reply.{Reply}
+
+-- What an event has to bring: what is said, and the device afterwards.
+pub record Due : Type 0 where
+  pub says : Said
+  pub device : Device
+
+-- That a reply of the code is just what is due.
+pub record Meets (r : Reply) (d : Due) : Type 0 where
+  pub answer : said (r .answer) ≡ d .says
+  pub device : r .device ≡ d .device
+
+abbrev pub due : Said → Device → Due
+due says device = record { says = says; device = device }
+
+abbrev pub isOff : State → Bool
+isOff Off = true
+isOff Break = false
+isOff Ability = false
+isOff Ack = false
+isOff Complete = false
+isOff CheckLink = false
+isOff Up = false
+
+abbrev pub isUp : State → Bool
+isUp Off = false
+isUp Break = false
+isUp Ability = false
+isUp Ack = false
+isUp Complete = false
+isUp CheckLink = false
+isUp Up = true
+
+-- Three registers that are zero.
+abbrev pub noPage : PageRegisters
+noPage = record { low = 0; middle = 0; high = 0 }
+
+-- Nothing of any link: no own page, no held page, no page out, count 0, the link latch clear. Mark and timer are set anew before they are
+-- looked at; until then both stand at one reading.
+abbrev pub noTalk : ℕ → Talk
+noTalk reading =
+    record { own = 0; held = 0; out = false; count = 0; heard = false; mark = reading; timer = reading; latch = false }
+
+-- "fresh (Off, all zero)"
+abbrev pub freshDevice : Device
+freshDevice =
+    record {
+      state = Off; advertised = noPage; partner = noPage; flags = record { received = false; fault = false };
+      talk = noTalk 0; outcome = Nothing; reader = Fresh
+    }
+
+-- "entering it forgets reader, own page, held page, page out, count, outcome and 7.517-7.519 (then zero), clears the link latch, starts the break
+-- timer. Entering Off forgets and clears the same, and starts no timer." 7.514-7.516, Page received and Remote fault are not among them.
+abbrev pub entered : State → ℕ → Device → Device
+entered state reading d =
+    record {
+      state = state; advertised = d .advertised; partner = noPage; flags = d .flags; talk = noTalk reading; outcome = Nothing;
+      reader = Fresh
+    }
+
+abbrev pub intoBreak : ℕ → Device → Device
+intoBreak reading d = entered Break reading d
+
+abbrev pub intoOff : Device → Device
+intoOff d = entered Off 0 d
+
+-- The device with another state, talk, reader, and so on; all else stays.
+abbrev pub withState : State → Device → Device
+withState state d =
+    record {
+      state = state; advertised = d .advertised; partner = d .partner; flags = d .flags; talk = d .talk; outcome = d .outcome;
+      reader = d .reader
+    }
+
+abbrev pub withAdvertised : PageRegisters → Device → Device
+withAdvertised advertised d =
+    record {
+      state = d .state; advertised = advertised; partner = d .partner; flags = d .flags; talk = d .talk; outcome = d .outcome;
+      reader = d .reader
+    }
+
+abbrev pub withPartner : PageRegisters → Device → Device
+withPartner partner d =
+    record {
+      state = d .state; advertised = d .advertised; partner = partner; flags = d .flags; talk = d .talk; outcome = d .outcome;
+      reader = d .reader
+    }
+
+abbrev pub withFlags : Flags → Device → Device
+withFlags flags d =
+    record {
+      state = d .state; advertised = d .advertised; partner = d .partner; flags = flags; talk = d .talk; outcome = d .outcome;
+      reader = d .reader
+    }
+
+abbrev pub withTalk : Talk → Device → Device
+withTalk talk d =
+    record {
+      state = d .state; advertised = d .advertised; partner = d .partner; flags = d .flags; talk = talk; outcome = d .outcome;
+      reader = d .reader
+    }
+
+abbrev pub withOutcome : Answer → Device → Device
+withOutcome outcome d =
+    record {
+      state = d .state; advertised = d .advertised; partner = d .partner; flags = d .flags; talk = d .talk; outcome = outcome;
+      reader = d .reader
+    }
+
+abbrev pub withReader : Reader → Device → Device
+withReader reader d =
+    record {
+      state = d .state; advertised = d .advertised; partner = d .partner; flags = d .flags; talk = d .talk; outcome = d .outcome;
+      reader = reader
+    }

@@ -1,0 +1,124 @@
+// What a device remembers, and what is left of it where it goes into Break or Off.
+ghost use mathlib.Core.Path.{_≡_};
+ghost use Rattle.state.specs.Memory.{noPage, noTalk, freshDevice, entered};
+use reading::Reader;
+use refusal::Answer;
+
+// The states of the negotiation.
+pub enum State {
+    Off,
+    Break,
+    Ability,
+    Ack,
+    Complete,
+    CheckLink,
+    Up,
+}
+
+// A page's 48 bits as three registers: D15-0, D31-16, D47-32.
+pub struct PageRegisters {
+    pub low: u16,
+    pub middle: u16,
+    pub high: u16,
+}
+
+// The two bits of 7.513 that outlive a link: Page received and Remote fault.
+pub struct Flags {
+    pub received: bool,
+    pub fault: bool,
+}
+
+// What belongs to one link: the own page, the held page, whether a page is out, how many were sent in Complete; the mark, whether it is
+// "heard" or "waiting", and its reading; the reading at which the state's timer started; the link latch of 7.513.
+pub struct Talk {
+    pub own: u64,
+    pub held: u64,
+    pub out: bool,
+    pub count: u32,
+    pub heard: bool,
+    pub mark: u32,
+    pub timer: u32,
+    pub latch: bool,
+}
+
+// A device: its state; 7.514-516; 7.517-519; the bits that outlive a link; what belongs to the link; the outcome, nothing until
+// there is one; the reader.
+pub struct Device {
+    pub state: State,
+    pub advertised: PageRegisters,
+    pub partner: PageRegisters,
+    pub flags: Flags,
+    pub talk: Talk,
+    pub outcome: Answer,
+    pub reader: Reader,
+}
+
+// What an event brings.
+pub struct Reply {
+    pub answer: Answer,
+    pub device: Device,
+}
+
+// All zero.
+fn no_page() -> PageRegisters
+    ensures { λ r. ⌜ r ≡ noPage ⌝ }
+{
+    PageRegisters {
+        low: 0,
+        middle: 0,
+        high: 0,
+    }
+}
+
+// Nothing of any link, every time at one reading.
+fn no_talk(reading: u32) -> Talk
+    ensures { λ r. ⌜ r ≡ noTalk reading ⌝ }
+{
+    Talk {
+        own: 0,
+        held: 0,
+        out: false,
+        count: 0,
+        heard: false,
+        mark: reading,
+        timer: reading,
+        latch: false,
+    }
+}
+
+impl Device {
+    // A device that no event has reached.
+    pub fn fresh() -> Self
+        ensures { λ r. ⌜ r ≡ freshDevice ⌝ }
+    {
+        Device {
+            state: State::Off,
+            advertised: no_page(),
+            partner: no_page(),
+            flags: Flags {
+                received: false,
+                fault: false,
+            },
+            talk: no_talk(0),
+            outcome: Answer::Nothing,
+            reader: Reader::Fresh,
+        }
+    }
+}
+
+// The device in a state that forgets the link: Break or Off. Everything of the link is made anew here, so nothing can be left over.
+pub fn enter(device: Device, state: State, reading: u32) -> Device
+    ensures { λ r. ⌜ r ≡ entered state reading device ⌝ }
+{
+    let advertised = device.advertised;
+    let flags = device.flags;
+    Device {
+        state: state,
+        advertised: advertised,
+        partner: no_page(),
+        flags: flags,
+        talk: no_talk(reading),
+        outcome: Answer::Nothing,
+        reader: Reader::Fresh,
+    }
+}
