@@ -1,0 +1,49 @@
+-- 01, "Rate and role": "Resolving is also a public call on any two words: Wide, Selector of either, Tie, None, Roles, in that order."
+use Prim.Native.Nat.{ℕ}
+use mathlib.Core.Bool.{Bool, true, false, not, cond, _||_}
+use mathlib.Core.List.{List}
+use lib.Dec.{eqb}
+use Rattle.refusal.specs.declared.Answer.{Answer}
+use Rattle.refusal.specs.declared.Answer.the-variants.{Refused, Settled}
+use Rattle.refusal.specs.declared.Refusal.the-variants.{Wide, Selector, Tie, None, Roles}
+use Rattle.refusal.specs.Answers.{Said, said}
+use Rattle.page.specs.Word.{isWord}
+use Rattle.page.specs.Fields.{fieldOf}
+use Rattle.page.specs.declared.fields.Field.the-variants as field
+use Rattle.resolve.specs.declared.rates.Rate.{Rate}
+use Rattle.resolve.specs.declared.rates.Rate.the-variants.{Ability, Missing}
+use Rattle.resolve.specs.declared.roles.Role.{Role}
+use Rattle.resolve.specs.declared.roles.Role.the-variants.{Master, Slave, Fault}
+use Rattle.resolve.specs.Rates.{rateOrder, commonOf, firstOf}
+use Rattle.resolve.specs.Roles.{roleOf}
+
+-- "Wide": "word 2^48 or more".
+abbrev pub isWide : ℕ → Bool
+isWide word = not (isWord word)
+
+-- "Selector": S other than 1.
+abbrev pub hasOtherSelector : ℕ → Bool
+hasOtherSelector word = not (eqb (fieldOf field.Selector word) 1)
+
+-- "Tie": T equal.
+abbrev pub isTie : ℕ → ℕ → Bool
+isTie own partner = eqb (fieldOf field.Nonce own) (fieldOf field.Nonce partner)
+
+-- "None, Roles, in that order", else the ability and whether the own side is master.
+abbrev pub settledBy : Rate → Role → Answer
+settledBy Missing role = Refused None
+settledBy (Ability n) Fault = Refused Roles
+settledBy (Ability n) Master = Settled n true
+settledBy (Ability n) Slave = Settled n false
+
+-- What two words settle on, with the abilities of any ordered list.
+unfoldable pub resolutionOf : List ℕ → ℕ → ℕ → Answer
+resolutionOf order own partner =
+    cond (isWide own || isWide partner) (Refused Wide)
+    (cond (hasOtherSelector own || hasOtherSelector partner) (Refused Selector)
+    (cond (isTie own partner) (Refused Tie)
+    (settledBy (firstOf (commonOf order own partner)) (roleOf own partner))))
+
+-- The resolve call.
+unfoldable pub resolveSays : ℕ → ℕ → Said
+resolveSays own partner = said (resolutionOf rateOrder own partner)

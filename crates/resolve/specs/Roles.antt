@@ -1,0 +1,43 @@
+-- 01, "Rate and role": "Role: neither forced, higher T is master; one forced, its T4 decides (1 master) and the other takes the rest; both
+-- forced, T4 decides, and equal T4 is a fault."
+use Prim.Native.Nat.{ℕ}
+use mathlib.Core.Bool.{Bool, true, false, not, cond}
+use lib.Dec.{eqb, ltb}
+use Rattle.page.specs.Fields.{fieldOf}
+use Rattle.page.specs.declared.fields.Field.the-variants.{ForcedRole, Nonce}
+use Rattle.resolve.specs.declared.roles.Role.{Role}
+use Rattle.resolve.specs.declared.roles.Role.the-variants.{Master, Slave, Fault}
+use Rattle.resolve.specs.Rates.{hasBit}
+
+-- "D12 forced role (M/S)": whether the word's role is forced.
+abbrev pub isForced : ℕ → Bool
+isForced word = eqb (fieldOf ForcedRole word) 1
+
+-- T4, bit 4 of the nonce T: where the role is forced, 1 is master.
+abbrev pub asksMaster : ℕ → Bool
+asksMaster word = hasBit (fieldOf Nonce word) 4
+
+-- "higher T": all five bits as a number.
+abbrev pub isHigher : ℕ → ℕ → Bool
+isHigher own partner = ltb (fieldOf Nonce partner) (fieldOf Nonce own)
+
+abbrev pub masterIf : Bool → Role
+masterIf true = Master
+masterIf false = Slave
+
+-- Both forced: each takes what it asks for, and "equal T4 is a fault".
+abbrev pub bothForced : Bool → Bool → Role
+bothForced true true = Fault
+bothForced true false = Master
+bothForced false true = Slave
+bothForced false false = Fault
+
+-- The own side's role: by whether own is forced, whether partner is, and what each word has.
+abbrev pub roleBy : Bool → Bool → ℕ → ℕ → Role
+roleBy false false own partner = masterIf (isHigher own partner)
+roleBy true false own partner = masterIf (asksMaster own)
+roleBy false true own partner = masterIf (not (asksMaster partner))
+roleBy true true own partner = bothForced (asksMaster own) (asksMaster partner)
+
+unfoldable pub roleOf : ℕ → ℕ → Role
+roleOf own partner = roleBy (isForced own) (isForced partner) own partner

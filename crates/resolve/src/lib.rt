@@ -1,0 +1,6 @@
+// Rate and role: what two words settle on.
+mod rates;
+mod resolving;
+mod roles;
+
+pub use resolving::resolve;
