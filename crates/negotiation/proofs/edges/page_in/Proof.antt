@@ -1,0 +1,16 @@
+use borrow.Author.Needs.{needs}
+use Rattle.state.proofs.Dues.{as-due}
+use Rattle.negotiation.specs.Edges.{pageIn}
+use Rattle.negotiation.proofs.edges.page_in.Statement.{statement}
+use Rattle.negotiation.proofs.edges.page_in.Tie as tie
+
+pub page-in-spec : {M : Type 1} → statement M
+unfolding pageIn
+page-in-spec =
+    tie.close
+    (tie.spec
+    (λ c. search needs) (λ c κs. search needs) (λ c. search needs) (λ c κs. search needs) (λ c. search needs) (λ c κs. search needs) (λ c. search needs) (λ c κs. search needs) (λ c. search needs) (λ c κs. search needs) (λ c κs. search needs) (λ c. search needs) (λ c κs. search needs) (λ c. search needs) (λ c κs. search needs) (λ c. search needs) (λ c. search needs)
+    (λ c. as-due (c .page-in-ability .ensures) (simp (c .before .enum-told3 .given .1)))
+    (λ c. as-due (c .page-in-ack .ensures) (simp (c .before .enum-told4 .given .1)))
+    (λ c. as-due (c .answered3 .ensures) (simp (c .before .heard-at .ensures, c .before .before .enum-told5 .given .1)))
+    (λ c. search needs) (λ c. search needs))

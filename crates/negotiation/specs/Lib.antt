@@ -1,0 +1,7 @@
+pub mod Timers
+pub mod Pages
+pub mod Memories
+pub mod Edges
+pub mod Ticks
+pub mod Sending
+pub mod Reports

@@ -1,0 +1,208 @@
+// An edge: the reader takes it, and a good page does what the state says.
+ghost use mathlib.Core.Path.{_≡_};
+ghost use mathlib.Core.Bool.{true};
+ghost use Rattle.reading.specs.Reading.{edgeOf};
+ghost use Rattle.state.specs.declared.State.the-variants.{Ack};
+ghost use Rattle.state.specs.Memory.{Meets, withState, withTalk, withReader};
+ghost use Rattle.negotiation.specs.Memories.{marking, holding};
+ghost use Rattle.negotiation.specs.Timers.{lowSpeed};
+ghost use Rattle.negotiation.specs.Edges.{heardAt, pageInAbility, flagsBy, completed, pageInAck, pageIn, heardOf, edgeDue};
+use crate::pages::beyond_ack_and_echo;
+use crate::pages::registers_of;
+use crate::profile::Profile;
+use crate::profile::low_speed;
+use crate::replies::answered;
+use crate::replies::is_talking;
+use page::Field;
+use page::get;
+use reading::Reader;
+use refusal::Answer;
+use refusal::Refusal;
+use state::Device;
+use state::Flags;
+use state::Reply;
+use state::State;
+use state::enter;
+
+// The mark is "heard", now.
+fn heard_at(device: Device, reading: u32) -> Device
+    ensures { λ r. ⌜ r ≡ heardAt reading device ⌝ }
+{
+    let mut after = device;
+    after.talk.heard = true;
+    after.talk.mark = reading;
+    after
+}
+
+// The page is held, and the device goes to Ack.
+fn hold(device: Device, word: u64, reading: u32) -> Device
+    ensures { λ r. ⌜ r ≡ withState Ack (withTalk (marking true reading (holding word (device .talk))) device) ⌝ }
+{
+    let mut talk = device.talk;
+    talk.held = word;
+    talk.heard = true;
+    talk.mark = reading;
+    let advertised = device.advertised;
+    let partner = device.partner;
+    let flags = device.flags;
+    let outcome = device.outcome;
+    let reader = device.reader;
+    Device {
+        state: State::Ack,
+        advertised: advertised,
+        partner: partner,
+        flags: flags,
+        talk: talk,
+        outcome: outcome,
+        reader: reader,
+    }
+}
+
+// A good page in Ability.
+fn page_in_ability(device: Device, word: u64, reading: u32) -> Reply
+    ensures { λ r. ⌜ Meets r (pageInAbility word reading device) ⌝ }
+{
+    if get(word, Field::Selector) == 1 {
+        if get(word, Field::Nonce) == get(device.talk.own, Field::Nonce) {
+            return answered(Answer::Refused(Refusal::Tie), enter(device, State::Break, reading));
+        }
+        return answered(Answer::Page(word), hold(device, word, reading));
+    }
+    answered(Answer::Refused(Refusal::Selector), device)
+}
+
+// Page received, and Remote fault if the page has it; a page without it leaves that bit as it was.
+fn flags_by(word: u64, flags: Flags) -> Flags
+    ensures { λ r. ⌜ r ≡ flagsBy word flags ⌝ }
+{
+    if get(word, Field::RemoteFault) == 1 {
+        return Flags {
+            received: true,
+            fault: true,
+        };
+    }
+    Flags {
+        received: true,
+        fault: flags.fault,
+    }
+}
+
+// The partner has answered: its page goes into the registers, and the device to Complete.
+fn complete(device: Device, word: u64, reading: u32) -> Device
+    ensures { λ r. ⌜ r ≡ completed word reading device ⌝ }
+{
+    let mut talk = device.talk;
+    talk.count = 0;
+    talk.heard = true;
+    talk.mark = reading;
+    let advertised = device.advertised;
+    let flags = device.flags;
+    let outcome = device.outcome;
+    let reader = device.reader;
+    Device {
+        state: State::Complete,
+        advertised: advertised,
+        partner: registers_of(word),
+        flags: flags_by(word, flags),
+        talk: talk,
+        outcome: outcome,
+        reader: reader,
+    }
+}
+
+// A good page in Ack.
+fn page_in_ack(device: Device, word: u64, reading: u32) -> Reply
+    ensures { λ r. ⌜ Meets r (pageInAck word reading device) ⌝ }
+{
+    if beyond_ack_and_echo(word) == beyond_ack_and_echo(device.talk.held) {
+        if get(word, Field::Ack) == 1 {
+            if get(word, Field::EchoedNonce) == get(device.talk.own, Field::Nonce) {
+                return answered(Answer::Page(word), complete(device, word, reading));
+            }
+            return answered(Answer::Refused(Refusal::Echo), enter(device, State::Break, reading));
+        }
+        return answered(Answer::Page(word), heard_at(device, reading));
+    }
+    answered(Answer::Refused(Refusal::Changed), enter(device, State::Break, reading))
+}
+
+// A good page, by state.
+fn page_in(device: Device, word: u64, reading: u32) -> Reply
+    ensures { λ r. ⌜ Meets r (pageIn (device .state) word reading device) ⌝ }
+{
+    let state = device.state;
+    match state {
+        State::Off => answered(Answer::Nothing, device),
+        State::Break => answered(Answer::Nothing, device),
+        State::Ability => page_in_ability(device, word, reading),
+        State::Ack => page_in_ack(device, word, reading),
+        State::Complete => answered(Answer::Page(word), heard_at(device, reading)),
+        State::CheckLink => answered(Answer::Nothing, device),
+        State::Up => answered(Answer::Nothing, device),
+    }
+}
+
+// The device with another reader.
+fn with_reader(device: Device, reader: Reader) -> Device
+    ensures { λ r. ⌜ r ≡ withReader reader device ⌝ }
+{
+    let state = device.state;
+    let advertised = device.advertised;
+    let partner = device.partner;
+    let flags = device.flags;
+    let talk = device.talk;
+    let outcome = device.outcome;
+    Device {
+        state: state,
+        advertised: advertised,
+        partner: partner,
+        flags: flags,
+        talk: talk,
+        outcome: outcome,
+        reader: reader,
+    }
+}
+
+// The reader takes the edge.
+fn listen(profile: Profile, device: Device, reading: u32) -> Reply
+    ensures { λ r. ⌜ Meets r (heardOf (edgeOf (profile .mode) (device .reader) reading) reading device) ⌝ }
+{
+    let mode = profile.mode;
+    let reader = device.reader;
+    let step = reader.edge(mode, reading);
+    let answer = step.answer;
+    let moved = step.reader;
+    let next = with_reader(device, moved);
+    match answer {
+        Answer::Page(word) => page_in(next, word, reading),
+        Answer::Nothing => answered(answer, next),
+        Answer::Refused(refusal) => answered(answer, next),
+        Answer::Order(word) => answered(answer, next),
+        Answer::Settled { ability, master } => answered(answer, next),
+        Answer::Value(value) => answered(answer, next),
+        Answer::Number(number) => answered(answer, next),
+        Answer::Quiet => answered(answer, next),
+        Answer::Unfit => answered(answer, next),
+    }
+}
+
+// An edge, over any profile.
+fn edge_by(profile: Profile, device: Device, reading: u32) -> Reply
+    ensures { λ r. ⌜ Meets r (edgeDue profile reading device) ⌝ }
+{
+    let state = device.state;
+    if is_talking(state) {
+        if device.talk.out {
+            return answered(Answer::Nothing, device);
+        }
+        return listen(profile, device, reading);
+    }
+    answered(Answer::Nothing, device)
+}
+
+// The event "edge".
+pub fn edge(device: Device, reading: u32) -> Reply
+    ensures { λ r. ⌜ Meets r (edgeDue lowSpeed reading device) ⌝ }
+{
+    edge_by(low_speed(), device, reading)
+}

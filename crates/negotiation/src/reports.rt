@@ -1,0 +1,73 @@
+// A link report.
+ghost use mathlib.Core.Path.{_≡_};
+ghost use Rattle.state.specs.declared.State.the-variants.{Up, CheckLink};
+ghost use Rattle.state.specs.Memory.{Meets, withState};
+ghost use Rattle.negotiation.specs.Reports.{reportIn, reportDue};
+use crate::profile::has_rate;
+use crate::replies::answered;
+use refusal::Answer;
+use state::Device;
+use state::Reply;
+use state::State;
+use state::enter;
+
+// The link is up. The latch of 7.513 stays as it was: only a read sets it.
+fn come_up(device: Device) -> Device
+    ensures { λ r. ⌜ r ≡ withState Up device ⌝ }
+{
+    let advertised = device.advertised;
+    let partner = device.partner;
+    let flags = device.flags;
+    let talk = device.talk;
+    let outcome = device.outcome;
+    let reader = device.reader;
+    Device {
+        state: State::Up,
+        advertised: advertised,
+        partner: partner,
+        flags: flags,
+        talk: talk,
+        outcome: outcome,
+        reader: reader,
+    }
+}
+
+// A report in Check-link.
+fn report_in_check_link(device: Device, up: bool, reading: u32) -> Device
+    ensures { λ r. ⌜ r ≡ reportIn CheckLink up reading device ⌝ }
+{
+    let outcome = device.outcome;
+    if up {
+        if has_rate(outcome) {
+            return come_up(device);
+        }
+        return device;
+    }
+    device
+}
+
+// A report in Up.
+fn report_in_up(device: Device, up: bool, reading: u32) -> Device
+    ensures { λ r. ⌜ r ≡ reportIn Up up reading device ⌝ }
+{
+    if up {
+        return device;
+    }
+    enter(device, State::Break, reading)
+}
+
+// The event "link report".
+pub fn report(device: Device, reading: u32, up: bool) -> Reply
+    ensures { λ r. ⌜ Meets r (reportDue up reading device) ⌝ }
+{
+    let state = device.state;
+    match state {
+        State::Off => answered(Answer::Nothing, device),
+        State::Break => answered(Answer::Nothing, device),
+        State::Ability => answered(Answer::Nothing, device),
+        State::Ack => answered(Answer::Nothing, device),
+        State::Complete => answered(Answer::Nothing, device),
+        State::CheckLink => answered(Answer::Nothing, report_in_check_link(device, up, reading)),
+        State::Up => answered(Answer::Nothing, report_in_up(device, up, reading)),
+    }
+}
