@@ -64,7 +64,10 @@ fn page_in_ability(device: Device, word: u64, reading: u32) -> Reply
 {
     if get(word, Field::Selector) == 1 {
         if get(word, Field::Nonce) == get(device.talk.own, Field::Nonce) {
-            return answered(Answer::Refused(Refusal::Tie), enter(device, State::Break, reading));
+            return answered(
+                Answer::Refused(Refusal::Tie),
+                enter(device, State::Break, reading),
+            );
         }
         return answered(Answer::Page(word), hold(device, word, reading));
     }
@@ -119,11 +122,17 @@ fn page_in_ack(device: Device, word: u64, reading: u32) -> Reply
             if get(word, Field::EchoedNonce) == get(device.talk.own, Field::Nonce) {
                 return answered(Answer::Page(word), complete(device, word, reading));
             }
-            return answered(Answer::Refused(Refusal::Echo), enter(device, State::Break, reading));
+            return answered(
+                Answer::Refused(Refusal::Echo),
+                enter(device, State::Break, reading),
+            );
         }
         return answered(Answer::Page(word), heard_at(device, reading));
     }
-    answered(Answer::Refused(Refusal::Changed), enter(device, State::Break, reading))
+    answered(
+        Answer::Refused(Refusal::Changed),
+        enter(device, State::Break, reading),
+    )
 }
 
 // A good page, by state.

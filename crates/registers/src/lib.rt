@@ -164,7 +164,12 @@ fn read_status(device: Device) -> Reply
     ensures { λ r. ⌜ Meets r (due (registerValue (statusValue device)) (statusRead device)) ⌝ }
 {
     let state = device.state;
-    let value = status_value(device.flags.received, is_up(state), device.flags.fault, device.talk.latch);
+    let value = status_value(
+        device.flags.received,
+        is_up(state),
+        device.flags.fault,
+        device.talk.latch,
+    );
     shown(after_status(device), value)
 }
 

@@ -60,8 +60,13 @@ noTalk reading =
 abbrev pub freshDevice : Device
 freshDevice =
     record {
-      state = Off; advertised = noPage; partner = noPage; flags = record { received = false; fault = false };
-      talk = noTalk 0; outcome = Nothing; reader = Fresh
+      state = Off;
+      advertised = noPage;
+      partner = noPage;
+      flags = record { received = false; fault = false };
+      talk = noTalk 0;
+      outcome = Nothing;
+      reader = Fresh;
     }
 
 -- "entering it forgets reader, own page, held page, page out, count, outcome and 7.517-7.519 (then zero), clears the link latch, starts the break
@@ -69,8 +74,13 @@ freshDevice =
 abbrev pub entered : State → ℕ → Device → Device
 entered state reading d =
     record {
-      state = state; advertised = d .advertised; partner = noPage; flags = d .flags; talk = noTalk reading; outcome = Nothing;
-      reader = Fresh
+      state = state;
+      advertised = d .advertised;
+      partner = noPage;
+      flags = d .flags;
+      talk = noTalk reading;
+      outcome = Nothing;
+      reader = Fresh;
     }
 
 abbrev pub intoBreak : ℕ → Device → Device
@@ -83,48 +93,83 @@ intoOff d = entered Off 0 d
 abbrev pub withState : State → Device → Device
 withState state d =
     record {
-      state = state; advertised = d .advertised; partner = d .partner; flags = d .flags; talk = d .talk; outcome = d .outcome;
-      reader = d .reader
+      state = state;
+      advertised = d .advertised;
+      partner = d .partner;
+      flags = d .flags;
+      talk = d .talk;
+      outcome = d .outcome;
+      reader = d .reader;
     }
 
 abbrev pub withAdvertised : PageRegisters → Device → Device
 withAdvertised advertised d =
     record {
-      state = d .state; advertised = advertised; partner = d .partner; flags = d .flags; talk = d .talk; outcome = d .outcome;
-      reader = d .reader
+      state = d .state;
+      advertised = advertised;
+      partner = d .partner;
+      flags = d .flags;
+      talk = d .talk;
+      outcome = d .outcome;
+      reader = d .reader;
     }
 
 abbrev pub withPartner : PageRegisters → Device → Device
 withPartner partner d =
     record {
-      state = d .state; advertised = d .advertised; partner = partner; flags = d .flags; talk = d .talk; outcome = d .outcome;
-      reader = d .reader
+      state = d .state;
+      advertised = d .advertised;
+      partner = partner;
+      flags = d .flags;
+      talk = d .talk;
+      outcome = d .outcome;
+      reader = d .reader;
     }
 
 abbrev pub withFlags : Flags → Device → Device
 withFlags flags d =
     record {
-      state = d .state; advertised = d .advertised; partner = d .partner; flags = flags; talk = d .talk; outcome = d .outcome;
-      reader = d .reader
+      state = d .state;
+      advertised = d .advertised;
+      partner = d .partner;
+      flags = flags;
+      talk = d .talk;
+      outcome = d .outcome;
+      reader = d .reader;
     }
 
 abbrev pub withTalk : Talk → Device → Device
 withTalk talk d =
     record {
-      state = d .state; advertised = d .advertised; partner = d .partner; flags = d .flags; talk = talk; outcome = d .outcome;
-      reader = d .reader
+      state = d .state;
+      advertised = d .advertised;
+      partner = d .partner;
+      flags = d .flags;
+      talk = talk;
+      outcome = d .outcome;
+      reader = d .reader;
     }
 
 abbrev pub withOutcome : Answer → Device → Device
 withOutcome outcome d =
     record {
-      state = d .state; advertised = d .advertised; partner = d .partner; flags = d .flags; talk = d .talk; outcome = outcome;
-      reader = d .reader
+      state = d .state;
+      advertised = d .advertised;
+      partner = d .partner;
+      flags = d .flags;
+      talk = d .talk;
+      outcome = outcome;
+      reader = d .reader;
     }
 
 abbrev pub withReader : Reader → Device → Device
 withReader reader d =
     record {
-      state = d .state; advertised = d .advertised; partner = d .partner; flags = d .flags; talk = d .talk; outcome = d .outcome;
-      reader = reader
+      state = d .state;
+      advertised = d .advertised;
+      partner = d .partner;
+      flags = d .flags;
+      talk = d .talk;
+      outcome = d .outcome;
+      reader = reader;
     }

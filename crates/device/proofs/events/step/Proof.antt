@@ -1,0 +1,20 @@
+use mathlib.Core.Path.{refl, sym, _∙_}
+use borrow.Author.Needs.{needs}
+use Rattle.state.proofs.Dues.{as-due}
+use Rattle.device.specs.Steps.{stepOver}
+use Rattle.device.proofs.events.step.Statement.{statement}
+use Rattle.device.proofs.events.step.Tie as tie
+
+pub step-spec : {M : Type 1} → statement M
+unfolding stepOver
+step-spec =
+    tie.close
+    (tie.spec
+    (λ c. search needs) (λ c κs. search needs) (λ c. search needs) (λ c κs. search needs) (λ c. search needs) (λ c κs. search needs) (λ c. search needs) (λ c κs. search needs) (λ c. search needs) (λ c κs. search needs) (λ c. search needs) (λ c κs. search needs) (λ c. search needs)
+    (λ c. as-due (c .edge .ensures) (simp (c .before .before .event .given .1)))
+    (λ c. as-due (c .tick .ensures) (simp (c .before .before .event2 .given .1)))
+    (λ c. as-due (c .sent .ensures) (simp (c .before .before .event3 .given .1)))
+    (λ c. as-due (c .report .ensures) (simp (c .before .before .event4 .given .1)))
+    (λ c. as-due (c .read .ensures) (simp (c .before .before .event5 .given .1)))
+    (λ c. as-due (c .write .ensures) (simp (c .before .before .event6 .given .1)))
+    (λ c. rw (c .enum-told .given .1) (record { answer = refl; device = refl })))
