@@ -24,10 +24,15 @@ enum {
     MASTSTEP_GAP = 1,       /* an attempt ended: a gap was not what the pattern of a page asks there */
     MASTSTEP_CUT = 2,       /* an attempt ended: a quiet gap, or the capture's end, came before its last transition */
     MASTSTEP_CHECK = 3,     /* an attempt ended: it had all transitions, but the check bits do not agree */
+    MASTSTEP_SELECTOR = 4,  /* refused: a word's selector is not 1 */
+    MASTSTEP_TIE = 5,       /* refused: the two words have the same nonce */
+    MASTSTEP_NONE = 8,      /* refused: the two words have no rate in common */
+    MASTSTEP_ROLES = 9,     /* refused: the two words insist on the same role */
     MASTSTEP_ROOM = 12,     /* refused: the place is past the end, or too few entries follow it */
     MASTSTEP_WIDE = 13,     /* refused: the word is 2^48 or more */
     MASTSTEP_MODE = 14,     /* refused: the mode is neither 0 nor 1 */
     MASTSTEP_PAGE = 0x80,   /* a good page was read; the value is its word */
+    MASTSTEP_SETTLED = 0x82, /* rate and role are settled; the value has both: see maststep_resolve */
     MASTSTEP_NUMBER = 0x84, /* the value is a number: check bits, a count of readings, positions of a gap */
     MASTSTEP_QUIET = 0x85,  /* the gap is quiet; the value is 0 */
     MASTSTEP_UNFIT = 0x86   /* the gap is unfit; the value is 0 */
@@ -59,6 +64,25 @@ static inline uint64_t maststep_value(uint64_t answer)
  * A word of 2^48 or more is refused: MASTSTEP_WIDE (13).
  */
 uint64_t maststep_check(uint64_t word);
+
+/*
+ * Settles rate and role on two words: own is the page of this side, partner that of the other. Answers
+ * MASTSTEP_SETTLED. Bits 0-7 of the value are the number n of the ability An: the first of A6 25GBASE-T1,
+ * A5 10GBASE-T1, A4 5GBASE-T1, A3 2.5GBASE-T1, A2 1000BASE-T1, A0 100BASE-T1, A1 10BASE-T1S full duplex,
+ * A9 10BASE-T1L, A22 10BASE-T1S half duplex, in this order, that both words have. Bit 8 is 1 where this
+ * side is master, 0 where it is slave. All other bits of the value are 0.
+ *
+ * Refused, in this order:
+ *   MASTSTEP_WIDE (13)     either word is 2^48 or more;
+ *   MASTSTEP_SELECTOR (4)  the selector S of either is not 1;
+ *   MASTSTEP_TIE (5)       the nonce T is the same in both;
+ *   MASTSTEP_NONE (8)      none of these abilities is in both;
+ *   MASTSTEP_ROLES (9)     both roles are forced, and to the same one.
+ *
+ * With the two words exchanged the ability or the refusal is the same and the role the opposite one, so
+ * that two sides which call this agree.
+ */
+uint64_t maststep_resolve(uint64_t own, uint64_t partner);
 
 /*
  * Says what a gap of this many ns between two transitions is. Answers MASTSTEP_NUMBER with 1 to 4, the

@@ -2,7 +2,7 @@
  * The C library as a C program sees it: through include/maststep.h, linked with libmaststep.a.
  *
  * What is expected here is written out from the scope's own tables (positions, windows, examples
- * P1-P4 and P6-P8), with no code in common with the library. A check that holds prints nothing. The
+ * P1-P4 and P6-P13), with no code in common with the library. A check that holds prints nothing. The
  * last line is 'N passed, M failed', and the exit status is 1 where M is not 0.
  */
 #include <stdio.h>
@@ -46,10 +46,15 @@ static void test_header(void)
     same("Gap is 1", MASTSTEP_GAP, 1);
     same("Cut is 2", MASTSTEP_CUT, 2);
     same("Check is 3", MASTSTEP_CHECK, 3);
+    same("Selector is 4", MASTSTEP_SELECTOR, 4);
+    same("Tie is 5", MASTSTEP_TIE, 5);
+    same("None is 8", MASTSTEP_NONE, 8);
+    same("Roles is 9", MASTSTEP_ROLES, 9);
     same("Room is 12", MASTSTEP_ROOM, 12);
     same("Wide is 13", MASTSTEP_WIDE, 13);
     same("Mode is 14", MASTSTEP_MODE, 14);
     same("a page is 80", MASTSTEP_PAGE, 0x80);
+    same("settled is 82", MASTSTEP_SETTLED, 0x82);
     same("a number is 84", MASTSTEP_NUMBER, 0x84);
     same("quiet is 85", MASTSTEP_QUIET, 0x85);
     same("unfit is 86", MASTSTEP_UNFIT, 0x86);
@@ -74,6 +79,103 @@ static void test_check(void)
     same("check of 2^48 + 1", maststep_check(TOO_WIDE + 1), packed(13, 0));
     same("check of 2^63", maststep_check(UINT64_C(1) << 63), packed(13, 0));
     same("check of 2^64 - 1", maststep_check(UINT64_MAX), packed(13, 0));
+}
+
+/* ---- rate and role */
+
+/* A word of its selector, forced role, nonce and abilities; all other bits are 0. */
+static uint64_t word_of(uint64_t selector, uint64_t forced, uint64_t nonce, uint64_t abilities)
+{
+    return selector + (forced << 12) + (nonce << 16) + (abilities << 21);
+}
+
+static uint64_t settled(uint64_t ability, uint64_t master)
+{
+    return packed(0x82, ability + 256 * master);
+}
+
+static void test_resolve_examples(void)
+{
+    same("P9", maststep_resolve(0x850001, 0xA90001), settled(2, 0));
+    same("P10", maststep_resolve(0x851001, 0xA91001), packed(9, 0));
+    same("P11", maststep_resolve(0x951001, 0xA90001), settled(2, 1));
+    same("P12", maststep_resolve(0x850001, 0x850001), packed(5, 0));
+    same("P13", maststep_resolve(0x450001, 0xA90001), packed(8, 0));
+    /* The other side sees the opposite role. */
+    same("P9 exchanged", maststep_resolve(0xA90001, 0x850001), settled(2, 1));
+    same("P11 exchanged", maststep_resolve(0xA90001, 0x951001), settled(2, 0));
+}
+
+/* Each refusal at either side, and before those that come after it. */
+static void test_resolve_refusals(void)
+{
+    const uint64_t plain = word_of(1, 0, 5, 4), other = word_of(1, 0, 9, 4);
+    uint64_t selector;
+
+    same("own 2^48", maststep_resolve(TOO_WIDE, other), packed(13, 0));
+    same("own is P9's and 2^48", maststep_resolve(plain + TOO_WIDE, other), packed(13, 0));
+    same("partner 2^48", maststep_resolve(plain, TOO_WIDE), packed(13, 0));
+    same("partner is P9's and 2^48", maststep_resolve(plain, other + TOO_WIDE), packed(13, 0));
+    same("both 2^64 - 1", maststep_resolve(UINT64_MAX, UINT64_MAX), packed(13, 0));
+    same("own 0, partner 2^63", maststep_resolve(0, UINT64_C(1) << 63), packed(13, 0));
+    same("both 2^48 - 1", maststep_resolve(WIDEST, WIDEST), packed(4, 0));
+    for (selector = 0; selector < 32; selector++) {
+        if (selector == 1) continue;
+        same("own selector", maststep_resolve(word_of(selector, 0, 5, 4), other), packed(4, 0));
+        same("partner selector", maststep_resolve(plain, word_of(selector, 0, 9, 4)), packed(4, 0));
+    }
+    same("selector before tie", maststep_resolve(0, 0), packed(4, 0));
+    same("tie before none", maststep_resolve(word_of(1, 0, 5, 1), word_of(1, 0, 5, 2)), packed(5, 0));
+    same("tie before roles", maststep_resolve(word_of(1, 1, 5, 1), word_of(1, 1, 5, 1)), packed(5, 0));
+    same("none before roles", maststep_resolve(word_of(1, 1, 5, 1), word_of(1, 1, 9, 2)), packed(8, 0));
+}
+
+/* The nine rates in their order: with a rate and all after it in one word, and every ability in the other, it is chosen. */
+static void test_rates(void)
+{
+    static const uint64_t order[9] = {6, 5, 4, 3, 2, 0, 1, 9, 22};
+    const uint64_t every = (UINT64_C(1) << 27) - 1;
+    uint64_t rates = 0, left;
+    size_t i;
+
+    for (i = 0; i < 9; i++) rates |= UINT64_C(1) << order[i];
+    left = rates;
+    for (i = 0; i < 9; i++) {
+        char what[64];
+
+        snprintf(what, sizeof what, "the rate A%u", (unsigned)order[i]);
+        same(what, maststep_resolve(word_of(1, 0, 5, left), word_of(1, 0, 9, every)), settled(order[i], 0));
+        same(what, maststep_resolve(word_of(1, 0, 9, every), word_of(1, 0, 5, left)), settled(order[i], 1));
+        same(what, maststep_resolve(word_of(1, 0, 5, UINT64_C(1) << order[i]), word_of(1, 0, 9, rates)), settled(order[i], 0));
+        left &= ~(UINT64_C(1) << order[i]);
+    }
+    same("no rate", maststep_resolve(word_of(1, 0, 5, every & ~rates), word_of(1, 0, 9, every)), packed(8, 0));
+    /* Echo, pause, remote fault, Ack and NP, D5-11 and D13-15, are not looked at. */
+    same("bits that do not matter", maststep_resolve(0x850001 | 0xefe0, 0xA90001), settled(2, 0));
+    same("bits that do not matter in the partner's", maststep_resolve(0x850001, 0xA90001 | 0xefe0), settled(2, 0));
+}
+
+/* The scope's table of roles, on every pair of nonces. */
+static void test_roles(void)
+{
+    unsigned own, partner, forced, wrong = 0;
+
+    for (forced = 0; forced < 4; forced++) {
+        const unsigned own_forced = forced & 1, partner_forced = forced >> 1;
+
+        for (own = 0; own < 32; own++) {
+            for (partner = 0; partner < 32; partner++) {
+                uint64_t want = settled(2, own > partner);
+
+                if (own_forced) want = settled(2, own >= 16);
+                if (partner_forced) want = settled(2, partner < 16);
+                if (own_forced && partner_forced && (own >= 16) == (partner >= 16)) want = packed(9, 0);
+                if (own == partner) want = packed(5, 0);
+                if (maststep_resolve(word_of(1, own_forced, own, 4), word_of(1, partner_forced, partner, 4)) != want) wrong++;
+            }
+        }
+    }
+    same("pairs of nonces with a wrong role", wrong, 0);
 }
 
 /* ---- gaps */
@@ -640,6 +742,10 @@ int main(void)
     setvbuf(stdout, NULL, _IOLBF, BUFSIZ);
     test_header();
     test_check();
+    test_resolve_examples();
+    test_resolve_refusals();
+    test_rates();
+    test_roles();
     test_judge();
     test_pages();
     test_places();

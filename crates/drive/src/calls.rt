@@ -127,6 +127,18 @@ fn read(
     tell_two(answers, told, answer.packed(), outcome.next as u64)
 }
 
+// Operation 5: own, partner.
+fn resolve(cells: &[u64; 65536], from: usize, answers: &mut [u64; 65536], told: usize) -> usize
+    requires { ⌜ (from + 2 ≤ 65536) × (told + 2 ≤ from) ⌝ }
+    ensures { λ r. ⌜ r ≡ told + 2 ⌝ }
+{
+    tell_one(
+        answers,
+        told,
+        resolve::resolve(cells[from], cells[from + 1]).packed(),
+    )
+}
+
 // The numbers of mode 0 or 1.
 fn line_mode(mode: u64) -> LineMode {
     if mode == 0 {
@@ -213,6 +225,11 @@ fn answer_one(
     if operation == 4 {
         if 2 <= size {
             return read(cells, from, size, answers, told, list);
+        }
+    }
+    if operation == 5 {
+        if 2 <= size {
+            return resolve(cells, from, answers, told);
         }
     }
     if operation == 7 {

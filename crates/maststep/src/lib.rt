@@ -2,6 +2,7 @@
 ghost use mathlib.Core.Path.{_≡_};
 ghost use Rattle.refusal.specs.Answers.{packed};
 ghost use Rattle.page.specs.Checked.{checked};
+ghost use Rattle.resolve.specs.Resolving.{resolveSays};
 ghost use Rattle.line.specs.Gaps.{judged};
 ghost use Rattle.line.specs.Writing.{writeSays, writeLeaves};
 ghost use Rattle.reading.specs.Captures.{readOf};
@@ -13,6 +14,14 @@ pub extern "C" fn maststep_check(word: u64) -> u64
     ensures { λ r. ⌜ r ≡ packed (checked word) ⌝ }
 {
     page::check(word).packed()
+}
+
+// What two words settle on, ability and role, or 13, 4, 5, 8, 9.
+#[no_mangle]
+pub extern "C" fn maststep_resolve(own: u64, partner: u64) -> u64
+    ensures { λ r. ⌜ r ≡ packed (resolveSays own partner) ⌝ }
+{
+    resolve::resolve(own, partner).packed()
 }
 
 // How a gap counts in a mode, or 14.

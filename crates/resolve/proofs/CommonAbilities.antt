@@ -1,8 +1,8 @@
 -- The search for the first common ability: what is passed was not common, so what is left to find stays the same.
 use mathlib.Core.Path.{_≡_, refl, sym, ap, _∙_}
-use mathlib.Core.Bool.{Bool, true, false, and-false}
-use mathlib.Core.List.{List, [], _∷_}
-use Prim.Native.Nat.{ℕ, suc, _+_, _≤_, _<_, _/_, _^_}
+use mathlib.Core.Bool.{true, false, and-false}
+use mathlib.Core.List.{List, _∷_}
+use Prim.Native.Nat.{ℕ, suc, _+_, _≤_, _<_}
 use native.Mathlib.Nat.{div-eq-of-lt, lt-of-lt-of-le}
 use native.Mathlib.Numerals.{add-one}
 use native.Mathlib.Omega.{arith}
@@ -10,8 +10,6 @@ use lib.ListN.{length, getD, drop, drop-of-length-le}
 use lib.Pow.{pow-mono}
 use lib.Seq.{drop-cons}
 use Rattle.page.specs.Word.{odd}
-use Rattle.page.specs.Fields.{fieldOf}
-use Rattle.page.specs.declared.fields.Field.the-variants.{Abilities}
 use Rattle.page.proofs.FieldLaws.{part-below}
 use Rattle.resolve.specs.declared.rates.Rate.the-variants.{Ability, Missing}
 use Rattle.resolve.specs.Rates.{hasAbility, isCommon, commonOf, firstOf}

@@ -1,1 +1,5 @@
 pub mod CommonAbilities
+pub mod FirstInOrder
+pub mod Exchange
+pub mod LookedAt
+pub mod ResolveExamples

@@ -1,7 +1,7 @@
 -- 01, "Rate and role": "Role: neither forced, higher T is master; one forced, its T4 decides (1 master) and the other takes the rest; both
 -- forced, T4 decides, and equal T4 is a fault."
 use Prim.Native.Nat.{ℕ}
-use mathlib.Core.Bool.{Bool, true, false, not, cond}
+use mathlib.Core.Bool.{Bool, true, false, not}
 use lib.Dec.{eqb, ltb}
 use Rattle.page.specs.Fields.{fieldOf}
 use Rattle.page.specs.declared.fields.Field.the-variants.{ForcedRole, Nonce}

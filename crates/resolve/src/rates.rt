@@ -4,7 +4,7 @@ ghost use Rattle.resolve.specs.Rates.{hasAbility, commonOf, firstOf};
 use page::Field;
 
 // The number n of the ability An that was found.
-pub enum Rate {
+pub(crate) enum Rate {
     Ability(u8),
     Missing,
 }

@@ -4,7 +4,7 @@ ghost use Rattle.resolve.specs.Roles.{isForced, asksMaster, masterIf, bo
 use page::Field;
 
 // The own side's role, or that the two ask for the same one.
-pub enum Role {
+pub(crate) enum Role {
     Master,
     Slave,
     Fault,

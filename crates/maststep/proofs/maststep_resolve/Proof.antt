@@ -1,0 +1,15 @@
+use mathlib.Core.Path.{ap, _∙_}
+use borrow.Author.Needs.{needs}
+use Rattle.refusal.specs.Answers.{said, packed}
+use Rattle.refusal.specs.declared.Answer.{Answer}
+use Rattle.resolve.specs.Resolving.{resolveSays}
+use Rattle.maststep.proofs.maststep_resolve.Statement.{statement}
+use Rattle.maststep.proofs.maststep_resolve.Tie as tie
+
+pub maststep-resolve-spec : {M : Type 1} → statement M
+unfolding resolveSays
+maststep-resolve-spec =
+    tie.close
+    (tie.spec
+    (λ c κs. search needs) (λ c κs. search needs)
+    (λ c. c .packed .ensures ∙ ap (λ (a : Answer). packed (said a)) (c .before .resolve .ensures)))
