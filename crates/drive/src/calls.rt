@@ -2,7 +2,7 @@
 ghost use mathlib.Core.Path.{_≡_};
 ghost use Prim.Native.Nat.{_+_, _≤_};
 ghost use lib.ListN.{length};
-use line::LineMode;
+use gap::LineMode;
 use reading::Reader;
 use refusal::Answer;
 use refusal::Refusal;
@@ -201,7 +201,7 @@ fn answer_one(
             return tell_one(
                 answers,
                 told,
-                line::judge(mode_of(cells[from]), low_half(cells[from + 1])).packed(),
+                gap::judge(mode_of(cells[from]), low_half(cells[from + 1])).packed(),
             );
         }
     }

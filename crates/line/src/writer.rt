@@ -7,11 +7,11 @@ ghost use Rattle.refusal.specs.Answers.{said};
 ghost use Rattle.page.specs.CheckBits.{checkBits};
 ghost use Rattle.line.specs.Transitions.{readings, edgeCount};
 ghost use Rattle.line.specs.Writing.{saysIn, leavesIn, writeSays, writeLeaves};
-use crate::modes::Found;
-use crate::modes::LineMode;
-use crate::modes::mode_of;
 use crate::transitions::edge_count;
 use crate::transitions::transition_at;
+use gap::Found;
+use gap::LineMode;
+use gap::mode_of;
 use refusal::Answer;
 use refusal::Refusal;
 

@@ -5,8 +5,8 @@ use mathlib.Core.List.{[], _∷_, _++_}
 use Rattle.page.specs.CheckBits.{checkBits, checkList, remainder, agrees}
 use Rattle.line.specs.Transitions.{sentBits, hasTransition, positionsTo, transitions, readings}
 use Rattle.reading.specs.Captures.{readOf, readIn, attemptOf, opensAt}
-use Rattle.line.specs.Gaps.{judgementOf}
-use Rattle.line.specs.Modes.{hsmMode, modeOf}
+use Rattle.gap.specs.Gaps.{judgementOf}
+use Rattle.gap.specs.Modes.{hsmMode, modeOf}
 use Rattle.reading.specs.Pattern.{always, byBit, isClock, asks}
 use Rattle.reading.specs.Reading.{edgeOf, goesOn, arrives, dropsOn}
 use Rattle.listing_text.specs.Words.{lineFeed, modeWord, modeName, edgesWord, goodWord, cutWord, pagesWord, badWord, refusedWord, decimal, hexDigits}

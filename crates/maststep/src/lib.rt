@@ -2,7 +2,7 @@
 ghost use mathlib.Core.Path.{_≡_};
 ghost use Rattle.refusal.specs.Answers.{packed};
 ghost use Rattle.page.specs.Checked.{checked};
-ghost use Rattle.line.specs.Gaps.{judged};
+ghost use Rattle.gap.specs.Gaps.{judged};
 ghost use Rattle.line.specs.Writing.{writeSays, writeLeaves};
 ghost use Rattle.reading.specs.Captures.{readOf};
 ghost use Rattle.maststep.specs.NextPlace.{nextLeft};
@@ -20,7 +20,7 @@ pub extern "C" fn maststep_check(word: u64) -> u64
 pub extern "C" fn maststep_judge(mode: u32, gap: u32) -> u64
     ensures { λ r. ⌜ r ≡ packed (judged mode gap) ⌝ }
 {
-    line::judge(mode, gap).packed()
+    gap::judge(mode, gap).packed()
 }
 
 // Writes a page's readings into the list from a place on: their number, or 14, 13, 12.

@@ -12,7 +12,7 @@ use lib.Dec.{eqb, leb}
 use lib.ListN.{length}
 use borrow.Author.Tests.{eqb-true, leb-true, le-leb, not-true}
 use Rattle.page.proofs.ComputedTest.{everyBelow, at-each, beq-equal, and-left, and-right}
-use Rattle.line.specs.Transitions.{hsmDelimiter, lsmDelimiter}
+use Rattle.gap.specs.Delimiters.{hsmDelimiter, lsmDelimiter}
 use Rattle.reading.specs.Pattern.{always, byBit, isClock, asks}
 use Rattle.reading.specs.Reading.{withBit}
 use Rattle.reading.proofs.EdgeRuns.{gaps}

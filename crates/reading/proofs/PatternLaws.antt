@@ -1,7 +1,7 @@
 -- What the pattern asks, by kinds of positions: in the delimiter a span of a mask, computed; after a clock one or two positions, after a
 -- bit one, after 155 two, and nothing elsewhere.
 use mathlib.Core.Path.{_≡_, refl, sym, ap, ap₂, _∙_}
-use mathlib.Core.Bool.{Bool, true, false, cond, not, _&&_, _||_, Bool·beq, true≢false}
+use mathlib.Core.Bool.{Bool, true, false, cond, not, _&&_, _||_, Bool·beq, true≢false, and-false}
 use mathlib.Core.List.{List}
 use Prim.Native.Nat.{ℕ, zero, suc, _+_, _-_, _*_, _/_, _%_, _^_, _<_, _≤_}
 use native.Mathlib.Nat.{mul-comm, pow-suc}
@@ -11,11 +11,11 @@ use lib.Dec.{leb, eqb}
 use lib.Pow.{shl-exact}
 use borrow.Author.Tests.{leb-true, leb-false, eqb-true, eqb-false, le-leb, lt-leb, eq-eqb, ne-eqb}
 use Rattle.page.specs.Word.{odd}
-use Rattle.page.proofs.ComputedTest.{everyBelow, at-each, and-false, beq-equal}
-use Rattle.line.specs.Transitions.{among, hsmDelimiter, lsmDelimiter}
-use Rattle.line.specs.declared.modes.LineMode.{LineMode}
-use Rattle.line.specs.declared.modes.Judgement.the-variants.{Positions, Quiet, Unfit}
-use Rattle.line.specs.Gaps.{within, judgementOf}
+use Rattle.page.proofs.ComputedTest.{everyBelow, at-each, beq-equal}
+use Rattle.gap.specs.Delimiters.{among, hsmDelimiter, lsmDelimiter}
+use Rattle.gap.specs.declared.modes.LineMode.{LineMode}
+use Rattle.gap.specs.declared.modes.Judgement.the-variants.{Positions, Quiet, Unfit}
+use Rattle.gap.specs.Gaps.{within, judgementOf}
 use Rattle.reading.specs.Pattern.{always, byBit, isClock, free, asks}
 
 -- A number from 1 to 4.

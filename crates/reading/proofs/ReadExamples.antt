@@ -5,8 +5,8 @@ use mathlib.Core.List.{[], _∷_}
 use Rattle.page.specs.CheckBits.{checkBits, checkList, remainder, agrees}
 use Rattle.refusal.specs.Answers.{pageRead, refused}
 use Rattle.reading.specs.declared.reader.Reader.the-variants.{Fresh}
-use Rattle.line.specs.Modes.{hsmMode, lsmMode}
-use Rattle.line.specs.Gaps.{judgementOf}
+use Rattle.gap.specs.Modes.{hsmMode, lsmMode}
+use Rattle.gap.specs.Gaps.{judgementOf}
 use Rattle.line.specs.Transitions.{sentBits, hasTransition, positionsTo, transitions, readings}
 use Rattle.reading.specs.Pattern.{always, byBit, isClock, asks}
 use Rattle.reading.specs.Reading.{arrives, goesOn, dropsOn, edgeOf}

@@ -3,7 +3,7 @@ use Prim.Native.Nat.{ℕ, zero, suc, _+_, _-_}
 use mathlib.Core.Bool.{Bool, true, cond, not, _&&_, _||_}
 use lib.Dec.{leb}
 use Rattle.page.specs.Word.{odd}
-use Rattle.line.specs.Transitions.{among, hsmDelimiter, lsmDelimiter}
+use Rattle.gap.specs.Delimiters.{among, hsmDelimiter, lsmDelimiter}
 
 -- Whether every page has a transition at a position: the delimiter's own, the clocks, 155 and 157.
 unfoldable pub always : Bool → ℕ → Bool

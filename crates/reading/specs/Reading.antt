@@ -5,14 +5,14 @@ use mathlib.Core.Bool.{Bool, cond}
 use lib.Dec.{eqb}
 use Rattle.refusal.specs.Answers.{Said, said, nothing, refused, pageRead}
 use Rattle.page.specs.CheckBits.{agrees}
-use Rattle.line.specs.declared.modes.LineMode.{LineMode}
-use Rattle.line.specs.declared.modes.Judgement.{Judgement}
-use Rattle.line.specs.declared.modes.Judgement.the-variants.{Positions, Quiet, Unfit}
+use Rattle.gap.specs.declared.modes.LineMode.{LineMode}
+use Rattle.gap.specs.declared.modes.Judgement.{Judgement}
+use Rattle.gap.specs.declared.modes.Judgement.the-variants.{Positions, Quiet, Unfit}
 use Rattle.reading.specs.declared.reader.Reader.{Reader}
 use Rattle.reading.specs.declared.reader.Reader.the-variants.{Fresh, Open, Dropping}
 use Rattle.reading.specs.declared.reader.Step.{Step}
-use Rattle.line.specs.Clock.{timeBetween}
-use Rattle.line.specs.Gaps.{judgementOf}
+use Rattle.gap.specs.Clock.{timeBetween}
+use Rattle.gap.specs.Gaps.{judgementOf}
 use Rattle.reading.specs.Pattern.{isClock, asks}
 
 -- What an edge brings: what is said, and the reader afterwards.

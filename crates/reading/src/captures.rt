@@ -9,9 +9,9 @@ ghost use Rattle.reading.specs.declared.reader.Reader.the-variants.{Fres
 ghost use Rattle.reading.specs.Captures.{Tells, isOpen, opensAt, attemptOf, readIn, readOf};
 use crate::reader::Reader;
 use crate::reader::drop_on;
-use line::Found;
-use line::LineMode;
-use line::mode_of;
+use gap::Found;
+use gap::LineMode;
+use gap::mode_of;
 use refusal::Answer;
 use refusal::Refusal;
 

@@ -2,16 +2,16 @@
 ghost use mathlib.Core.Path.{_≡_};
 ghost use Prim.Native.Nat.{_≤_};
 ghost use Rattle.refusal.specs.Answers.{said};
-ghost use Rattle.line.specs.declared.modes.Judgement.the-variants.{Positions};
+ghost use Rattle.gap.specs.declared.modes.Judgement.the-variants.{Positions};
 ghost use Rattle.reading.specs.declared.reader.Reader.the-variants.{Open, Dropping};
-ghost use Rattle.line.specs.Clock.{timeBetween};
-ghost use Rattle.line.specs.Gaps.{judgementOf};
+ghost use Rattle.gap.specs.Clock.{timeBetween};
+ghost use Rattle.gap.specs.Gaps.{judgementOf};
 ghost use Rattle.reading.specs.Reading.{Gives, bring, withBit, arrives, goesOn, dropsOn, edgeOf};
 use crate::pattern::is_clock;
 use crate::pattern::pattern_asks;
-use line::Judgement;
-use line::LineMode;
-use line::time_between;
+use gap::Judgement;
+use gap::LineMode;
+use gap::time_between;
 use refusal::Answer;
 use refusal::Refusal;
 

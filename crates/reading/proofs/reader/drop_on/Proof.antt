@@ -1,6 +1,6 @@
 use mathlib.Core.Path.{sym, ap, _∙_}
 use borrow.Author.Needs.{needs}
-use Rattle.line.specs.Gaps.{judgementOf}
+use Rattle.gap.specs.Gaps.{judgementOf}
 use Rattle.reading.specs.Reading.{dropsOn}
 use Rattle.reading.proofs.reader.drop_on.Statement.{statement}
 use Rattle.reading.proofs.reader.drop_on.Tie as tie

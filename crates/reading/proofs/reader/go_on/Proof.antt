@@ -1,7 +1,7 @@
 use mathlib.Core.Path.{sym, ap, _∙_}
 use native.Mathlib.Omega.{arith}
 use borrow.Author.Needs.{needs}
-use Rattle.line.specs.Gaps.{judgementOf}
+use Rattle.gap.specs.Gaps.{judgementOf}
 use Rattle.reading.specs.Reading.{goesOn}
 use Rattle.reading.proofs.PatternLaws.{counted-small}
 use Rattle.reading.proofs.reader.go_on.Statement.{statement}

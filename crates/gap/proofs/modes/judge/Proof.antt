@@ -1,8 +1,8 @@
 use borrow.Author.Needs.{needs}
 use mathlib.Core.Path.{sym, ap, _∙_}
-use Rattle.line.specs.Gaps.{judged, saidOfGap}
-use Rattle.line.proofs.modes.judge.Statement.{statement}
-use Rattle.line.proofs.modes.judge.Tie as tie
+use Rattle.gap.specs.Gaps.{judged, saidOfGap}
+use Rattle.gap.proofs.modes.judge.Statement.{statement}
+use Rattle.gap.proofs.modes.judge.Tie as tie
 
 pub judge-spec : {M : Type 1} → statement M
 unfolding judged

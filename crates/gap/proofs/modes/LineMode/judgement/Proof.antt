@@ -1,8 +1,8 @@
 use borrow.Author.Needs.{needs}
 use borrow.Author.Tests.{le-leb, lt-leb}
-use Rattle.line.specs.Gaps.{judgementOf}
-use Rattle.line.proofs.modes.LineMode.judgement.Statement.{statement}
-use Rattle.line.proofs.modes.LineMode.judgement.Tie as tie
+use Rattle.gap.specs.Gaps.{judgementOf}
+use Rattle.gap.proofs.modes.LineMode.judgement.Statement.{statement}
+use Rattle.gap.proofs.modes.LineMode.judgement.Tie as tie
 
 pub judgement-spec : {M : Type 1} → statement M
 unfolding judgementOf

@@ -1,7 +1,7 @@
 use borrow.Author.Needs.{needs}
 use borrow.Author.Tests.{le-leb, lt-leb}
-use Rattle.line.proofs.modes.near.Statement.{statement}
-use Rattle.line.proofs.modes.near.Tie as tie
+use Rattle.gap.proofs.modes.near.Statement.{statement}
+use Rattle.gap.proofs.modes.near.Tie as tie
 
 pub near-spec : {M : Type 1} → statement M
 near-spec =

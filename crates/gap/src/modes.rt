@@ -4,8 +4,8 @@ ghost use mathlib.Core.Bool.{_&&_};
 ghost use Prim.Native.Nat.{_+_, _≤_};
 ghost use lib.Dec.{leb};
 ghost use Rattle.refusal.specs.Answers.{said};
-ghost use Rattle.line.specs.Modes.{hsmMode, lsmMode, modeOf};
-ghost use Rattle.line.specs.Gaps.{judgementOf, saidOfGap, judged};
+ghost use Rattle.gap.specs.Modes.{hsmMode, lsmMode, modeOf};
+ghost use Rattle.gap.specs.Gaps.{judgementOf, saidOfGap, judged};
 use refusal::Answer;
 use refusal::Refusal;
 

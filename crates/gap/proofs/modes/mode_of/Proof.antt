@@ -1,8 +1,8 @@
 use borrow.Author.Needs.{needs}
 use borrow.Author.Tests.{eq-eqb, ne-eqb}
-use Rattle.line.specs.Modes.{modeOf}
-use Rattle.line.proofs.modes.mode_of.Statement.{statement}
-use Rattle.line.proofs.modes.mode_of.Tie as tie
+use Rattle.gap.specs.Modes.{modeOf}
+use Rattle.gap.proofs.modes.mode_of.Statement.{statement}
+use Rattle.gap.proofs.modes.mode_of.Tie as tie
 
 pub mode-of-spec : {M : Type 1} → statement M
 unfolding modeOf

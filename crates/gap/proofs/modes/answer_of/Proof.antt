@@ -1,6 +1,6 @@
 use borrow.Author.Needs.{needs}
-use Rattle.line.proofs.modes.answer_of.Statement.{statement}
-use Rattle.line.proofs.modes.answer_of.Tie as tie
+use Rattle.gap.proofs.modes.answer_of.Statement.{statement}
+use Rattle.gap.proofs.modes.answer_of.Tie as tie
 
 pub answer-of-spec : {M : Type 1} → statement M
 answer-of-spec =

@@ -4,9 +4,9 @@ use mathlib.Core.Bool.{true, false, cond}
 use mathlib.Core.List.{List}
 use lib.Dec.{eqb}
 use Rattle.refusal.specs.Answers.{Said, refused}
-use Rattle.line.specs.declared.modes.LineMode.{LineMode}
-use Rattle.line.specs.declared.modes.Found.{Found}
-use Rattle.line.specs.declared.modes.Found.the-variants.{Known, Unknown}
+use Rattle.gap.specs.declared.modes.LineMode.{LineMode}
+use Rattle.gap.specs.declared.modes.Found.{Found}
+use Rattle.gap.specs.declared.modes.Found.the-variants.{Known, Unknown}
 
 -- "Mode 0 is HSM: 30, 9, 130 ns." `slow` says which of the two delimiters the mode has: the low-speed one or not.
 abbrev pub hsmMode : LineMode
