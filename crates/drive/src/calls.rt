@@ -3,7 +3,7 @@ ghost use mathlib.Core.Path.{_≡_};
 ghost use Prim.Native.Nat.{_+_, _≤_};
 ghost use lib.ListN.{length};
 use gap::LineMode;
-use reading::Reader;
+use reader::Reader;
 use refusal::Answer;
 use refusal::Refusal;
 

@@ -6,11 +6,11 @@ use lib.ListN.{length, replicate}
 use Rattle.refusal.specs.Answers.{Said, nothing}
 use Rattle.gap.specs.declared.modes.LineMode.{LineMode}
 use Rattle.gap.specs.declared.modes.Judgement.the-variants.{Positions}
-use Rattle.reading.specs.declared.reader.Reader.{Reader}
+use Rattle.reader.specs.declared.reader.Reader.{Reader}
 use Rattle.gap.specs.Clock.{timeBetween}
 use Rattle.gap.specs.Gaps.{judgementOf}
 use Rattle.line.specs.Transitions.{transitions}
-use Rattle.reading.specs.Reading.{edgeOf}
+use Rattle.reader.specs.Reading.{edgeOf}
 use Rattle.gap.proofs.Windows.{Near}
 
 -- The gaps of a list: of each entry and the one before it.

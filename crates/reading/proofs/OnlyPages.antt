@@ -16,13 +16,13 @@ use Rattle.page.proofs.WordBits.{sumOf}
 use Rattle.gap.specs.declared.modes.LineMode.{LineMode}
 use Rattle.gap.specs.declared.modes.Judgement.{Judgement}
 use Rattle.gap.specs.declared.modes.Judgement.the-variants.{Positions, Quiet, Unfit}
-use Rattle.reading.specs.declared.reader.Reader.{Reader}
-use Rattle.reading.specs.declared.reader.Reader.the-variants.{Open, Dropping}
+use Rattle.reader.specs.declared.reader.Reader.{Reader}
+use Rattle.reader.specs.declared.reader.Reader.the-variants.{Open, Dropping}
 use Rattle.gap.specs.Clock.{timeBetween}
 use Rattle.gap.specs.Gaps.{judgementOf}
 use Rattle.line.specs.Transitions.{sentBits}
-use Rattle.reading.specs.Pattern.{asks}
-use Rattle.reading.specs.Reading.{Brings, bring, withBit, arrives, goesOn, edgeOf}
+use Rattle.reader.specs.Pattern.{asks}
+use Rattle.reader.specs.Reading.{Brings, bring, withBit, arrives, goesOn, edgeOf}
 use Rattle.reading.proofs.JudgedGaps.{judged-counted, all-near}
 use Rattle.reading.proofs.EdgeRuns.{gapsAfter, saidAlong, onlyLast, pageGaps, WasSent}
 use Rattle.reading.proofs.GapMachine.{passes, bitsAfter, pass, gapsOf, page-bits, only-pages}

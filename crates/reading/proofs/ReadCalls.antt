@@ -11,7 +11,7 @@ use Rattle.refusal.specs.Answers.{nothing, refused, pageRead}
 use Rattle.gap.specs.declared.modes.LineMode.{LineMode}
 use Rattle.gap.proofs.Windows.{Apart}
 use Rattle.line.proofs.WrittenList.{has-edges}
-use Rattle.reading.specs.declared.reader.Reader.the-variants.{Fresh, Dropping}
+use Rattle.reader.specs.declared.reader.Reader.the-variants.{Fresh, Dropping}
 use Rattle.reading.specs.Captures.{Attempt, ends, opensAt, attemptOf, readIn}
 use Rattle.reading.proofs.EdgeRuns.{Sends, Begins, WasSent, lastOf}
 use Rattle.reading.proofs.ReadTheorem.{ReadsBack, reads-back}

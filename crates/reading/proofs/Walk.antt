@@ -16,12 +16,12 @@ use Rattle.page.specs.CheckBits.{agrees}
 use Rattle.gap.specs.declared.modes.LineMode.{LineMode}
 use Rattle.gap.specs.declared.modes.Judgement.{Judgement}
 use Rattle.gap.specs.declared.modes.Judgement.the-variants.{Positions, Quiet, Unfit}
-use Rattle.reading.specs.declared.reader.Reader.{Reader}
-use Rattle.reading.specs.declared.reader.Reader.the-variants.{Fresh, Open, Dropping}
+use Rattle.reader.specs.declared.reader.Reader.{Reader}
+use Rattle.reader.specs.declared.reader.Reader.the-variants.{Fresh, Open, Dropping}
 use Rattle.gap.specs.Clock.{timeBetween}
 use Rattle.gap.specs.Gaps.{judgementOf}
-use Rattle.reading.specs.Pattern.{asks}
-use Rattle.reading.specs.Reading.{Brings, bring, withBit, arrives, goesOn, dropsOn, edgeOf}
+use Rattle.reader.specs.Pattern.{asks}
+use Rattle.reader.specs.Reading.{Brings, bring, withBit, arrives, goesOn, dropsOn, edgeOf}
 use Rattle.reading.specs.Captures.{Attempt, ends, isOpen, opensAt, attemptOf, readIn}
 use Rattle.reading.proofs.EdgeRuns.{saidAlong, readerAfter}
 

@@ -13,7 +13,7 @@ use borrow.Author.Tests.{le-ltb, ne-eqb, ltb-true, leb-true}
 use Rattle.page.specs.Word.{isWord}
 use Rattle.refusal.specs.Answers.{Said, refused, number, pageRead}
 use Rattle.gap.specs.declared.modes.LineMode.{LineMode}
-use Rattle.reading.specs.declared.reader.Reader.the-variants.{Fresh, Dropping}
+use Rattle.reader.specs.declared.reader.Reader.the-variants.{Fresh, Dropping}
 use Rattle.gap.specs.declared.modes.Found.the-variants.{Known, Unknown}
 use Rattle.gap.specs.Modes.{hsmMode, lsmMode, modeOf, saysBy, leavesBy}
 use Rattle.gap.specs.Clock.{timeBetween}
@@ -31,7 +31,7 @@ use Rattle.reading.proofs.GapMachine.{passes, passed, page-passes}
 use Rattle.reading.proofs.SentGaps.{afterClock, transitions-listed, transition-gaps}
 use Rattle.reading.proofs.ReadBack.{fresh-reads}
 use Rattle.reading.proofs.ReadCaptures.{page-answer}
-use Rattle.reading.proofs.ClockShift.{time-of-distance}
+use Rattle.reader.proofs.ClockShift.{time-of-distance}
 
 module _ (m : LineMode) (first : ℕ) (clock : 4 * m .spacing < 2 ^ 32) where
   -- The readings of positions.

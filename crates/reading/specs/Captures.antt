@@ -9,11 +9,11 @@ use Rattle.refusal.specs.Answers.{Said, said, nothing, refused}
 use Rattle.gap.specs.declared.modes.LineMode.{LineMode}
 use Rattle.gap.specs.declared.modes.Found.{Found}
 use Rattle.gap.specs.declared.modes.Found.the-variants.{Known, Unknown}
-use Rattle.reading.specs.declared.reader.Reader.{Reader}
-use Rattle.reading.specs.declared.reader.Reader.the-variants.{Fresh, Open, Dropping}
+use Rattle.reader.specs.declared.reader.Reader.{Reader}
+use Rattle.reader.specs.declared.reader.Reader.the-variants.{Fresh, Open, Dropping}
 use Rattle.reading.specs.declared.captures.Outcome.{Outcome}
 use Rattle.gap.specs.Modes.{modeOf}
-use Rattle.reading.specs.Reading.{Brings, edgeOf}
+use Rattle.reader.specs.Reading.{Brings, edgeOf}
 
 -- What a capture brings: what is said, and where the next attempt opens.
 pub record Attempt : Type 0 where

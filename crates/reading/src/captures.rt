@@ -5,13 +5,13 @@ ghost use Prim.Native.Nat.{_+_, _≤_};
 ghost use lib.Dec.{eqb};
 ghost use lib.ListN.{length, drop};
 ghost use Rattle.refusal.specs.Answers.{said};
-ghost use Rattle.reading.specs.declared.reader.Reader.the-variants.{Fresh, Dropping};
+ghost use Rattle.reader.specs.declared.reader.Reader.the-variants.{Fresh, Dropping};
 ghost use Rattle.reading.specs.Captures.{Tells, isOpen, opensAt, attemptOf, readIn, readOf};
-use crate::reader::Reader;
-use crate::reader::drop_on;
 use gap::Found;
 use gap::LineMode;
 use gap::mode_of;
+use reader::Reader;
+use reader::drop_on;
 use refusal::Answer;
 use refusal::Refusal;
 

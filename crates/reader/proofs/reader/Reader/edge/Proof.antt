@@ -1,7 +1,7 @@
 use borrow.Author.Needs.{needs}
-use Rattle.reading.specs.Reading.{edgeOf}
-use Rattle.reading.proofs.reader.Reader.edge.Statement.{statement}
-use Rattle.reading.proofs.reader.Reader.edge.Tie as tie
+use Rattle.reader.specs.Reading.{edgeOf}
+use Rattle.reader.proofs.reader.Reader.edge.Statement.{statement}
+use Rattle.reader.proofs.reader.Reader.edge.Tie as tie
 
 pub edge-spec : {M : Type 1} → statement M
 unfolding edgeOf

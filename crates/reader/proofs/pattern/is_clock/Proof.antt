@@ -1,8 +1,8 @@
 use borrow.Author.Needs.{needs}
 use borrow.Author.Tests.{le-leb, lt-leb}
-use Rattle.reading.specs.Pattern.{isClock}
-use Rattle.reading.proofs.pattern.is_clock.Statement.{statement}
-use Rattle.reading.proofs.pattern.is_clock.Tie as tie
+use Rattle.reader.specs.Pattern.{isClock}
+use Rattle.reader.proofs.pattern.is_clock.Statement.{statement}
+use Rattle.reader.proofs.pattern.is_clock.Tie as tie
 
 pub is-clock-spec : {M : Type 1} → statement M
 unfolding isClock

@@ -2,8 +2,8 @@ use mathlib.Core.Path.{sym, _∙_}
 use native.Mathlib.Nat.{add-zero}
 use borrow.Author.Needs.{needs}
 use borrow.Author.Tests.{eq-eqb, ne-eqb}
-use Rattle.reading.proofs.reader.with_bit.Statement.{statement}
-use Rattle.reading.proofs.reader.with_bit.Tie as tie
+use Rattle.reader.proofs.reader.with_bit.Statement.{statement}
+use Rattle.reader.proofs.reader.with_bit.Tie as tie
 
 pub with-bit-spec : {M : Type 1} → statement M
 with-bit-spec =

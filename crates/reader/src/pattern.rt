@@ -2,7 +2,7 @@
 ghost use mathlib.Core.Path.{_≡_};
 ghost use Prim.Native.Nat.{_+_, _/_, _%_, _^_, _≤_};
 ghost use lib.Dec.{eqb};
-ghost use Rattle.reading.specs.Pattern.{isClock, asks};
+ghost use Rattle.reader.specs.Pattern.{isClock, asks};
 
 // The delimiters and the first clock: bit p is one where every page has a transition at position p.
 const HSM_START: u64 = 254341550;

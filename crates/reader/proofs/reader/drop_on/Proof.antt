@@ -1,9 +1,9 @@
 use mathlib.Core.Path.{sym, ap, _∙_}
 use borrow.Author.Needs.{needs}
 use Rattle.gap.specs.Gaps.{judgementOf}
-use Rattle.reading.specs.Reading.{dropsOn}
-use Rattle.reading.proofs.reader.drop_on.Statement.{statement}
-use Rattle.reading.proofs.reader.drop_on.Tie as tie
+use Rattle.reader.specs.Reading.{dropsOn}
+use Rattle.reader.proofs.reader.drop_on.Statement.{statement}
+use Rattle.reader.proofs.reader.drop_on.Tie as tie
 
 pub drop-on-spec : {M : Type 1} → statement M
 unfolding dropsOn

@@ -1,8 +1,7 @@
 -- The clock's shift: the time between two readings is the same if both are later by δ modulo 2^32. So a reader whose stored reading is later by
--- δ says the same at an edge that is; and a capture whose readings all are is answered alike.
-use mathlib.Core.Path.{_≡_, refl, ap, ap₂, _∙_}
+-- δ says the same at an edge that is.
+use mathlib.Core.Path.{_≡_, refl, ap, _∙_}
 use mathlib.Core.Bool.{Bool, true, false, cond}
-use mathlib.Core.List.{List, [], _∷_, map}
 use Prim.Native.Nat.{ℕ, _+_, _-_, _%_, _^_, _<_}
 use native.Mathlib.Nat.{mod-lt}
 use native.Mathlib.Omega.{arith}
@@ -13,13 +12,12 @@ use Rattle.page.specs.CheckBits.{agrees}
 use Rattle.gap.specs.declared.modes.LineMode.{LineMode}
 use Rattle.gap.specs.declared.modes.Judgement.{Judgement}
 use Rattle.gap.specs.declared.modes.Judgement.the-variants.{Positions, Quiet, Unfit}
-use Rattle.reading.specs.declared.reader.Reader.{Reader}
-use Rattle.reading.specs.declared.reader.Reader.the-variants.{Fresh, Open, Dropping}
+use Rattle.reader.specs.declared.reader.Reader.{Reader}
+use Rattle.reader.specs.declared.reader.Reader.the-variants.{Fresh, Open, Dropping}
 use Rattle.gap.specs.Clock.{timeBetween}
 use Rattle.gap.specs.Gaps.{judgementOf}
-use Rattle.reading.specs.Pattern.{asks}
-use Rattle.reading.specs.Reading.{Brings, bring, withBit, arrives, goesOn, dropsOn, edgeOf}
-use Rattle.reading.specs.Captures.{Attempt, ends, isOpen, opensAt, attemptOf}
+use Rattle.reader.specs.Pattern.{asks}
+use Rattle.reader.specs.Reading.{Brings, bring, withBit, arrives, goesOn, dropsOn, edgeOf}
 
 -- A reading d later than another.
 pub time-of-distance : (a d : ℕ) → d < 2 ^ 32 → timeBetween ((a + d) % 2 ^ 32) (a % 2 ^ 32) ≡ d
@@ -85,32 +83,3 @@ edge-later m δ (Open at last bits) reading =
 edge-later m δ (Dropping last) reading =
     ap (λ (gap : ℕ). dropsOn ((reading + δ) % 2 ^ 32) (judgementOf m gap)) (time-shifted δ reading last)
     ∙ drops-on-later δ reading (judgementOf m (timeBetween reading last))
-
--- A capture whose readings are all later by δ.
-abbrev pub allLater : ℕ → List ℕ → List ℕ
-allLater δ capture = map (λ x. (x + δ) % 2 ^ 32) capture
-
--- An attempt is open, and opens at a place, as it does earlier;
-open-later : (δ : ℕ) (r : Reader) → isOpen (later δ r) ≡ isOpen r
-open-later δ Fresh = refl
-open-later δ (Open at last bits) = refl
-open-later δ (Dropping last) = refl
-
-opens-later : (m : LineMode) (δ : ℕ) (r : Reader) (capture : List ℕ) (at : ℕ) → opensAt m (later δ r) (allLater δ capture) at ≡ opensAt m r capture at
-unfolding opensAt
-opens-later m δ r [] at = refl
-opens-later m δ r (x ∷ rest) at =
-    ap (λ (b : Brings). cond (isOpen (b .reader)) at (opensAt m (b .reader) (allLater δ rest) (at + 1))) (edge-later m δ r x)
-    ∙ ap₂ (λ (t : Bool) (n : ℕ). cond t at n) (open-later δ (edgeOf m r x .reader)) (opens-later m δ (edgeOf m r x .reader) rest (at + 1))
-
--- and the capture is answered alike.
-pub attempt-later : (m : LineMode) (δ : ℕ) (r : Reader) (capture : List ℕ) (at : ℕ)
-    → attemptOf m (later δ r) (allLater δ capture) at ≡ attemptOf m r capture at
-unfolding attemptOf
-attempt-later m δ r [] at = refl
-attempt-later m δ r (x ∷ rest) at =
-    ap (λ (b : Brings). cond (eqb (b .says .kind) 0) (attemptOf m (b .reader) (allLater δ rest) (at + 1))
-    (ends (b .says) (cond (isOpen (b .reader)) at (opensAt m (b .reader) (allLater δ rest) (at + 1))))) (edge-later m δ r x)
-    ∙ ap₂ (λ (a : Attempt) (n : ℕ). cond (eqb (edgeOf m r x .says .kind) 0) a (ends (edgeOf m r x .says) n))
-    (attempt-later m δ (edgeOf m r x .reader) rest (at + 1))
-    (ap₂ (λ (t : Bool) (n : ℕ). cond t at n) (open-later δ (edgeOf m r x .reader)) (opens-later m δ (edgeOf m r x .reader) rest (at + 1)))

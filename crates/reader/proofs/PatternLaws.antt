@@ -16,7 +16,7 @@ use Rattle.gap.specs.Delimiters.{among, hsmDelimiter, lsmDelimiter}
 use Rattle.gap.specs.declared.modes.LineMode.{LineMode}
 use Rattle.gap.specs.declared.modes.Judgement.the-variants.{Positions, Quiet, Unfit}
 use Rattle.gap.specs.Gaps.{within, judgementOf}
-use Rattle.reading.specs.Pattern.{always, byBit, isClock, free, asks}
+use Rattle.reader.specs.Pattern.{always, byBit, isClock, free, asks}
 
 -- A number from 1 to 4.
 pub record Small (k : ℕ) : Type 0 where

@@ -3,9 +3,9 @@ use Prim.Native.Nat.{_+_}
 use lib.Pow.{pow-pos, pow-mono}
 use borrow.Author.Needs.{needs}
 use Rattle.page.proofs.FieldLaws.{one-shifted}
-use Rattle.reading.proofs.PatternLaws.{two-shifted}
-use Rattle.reading.proofs.pattern.spans.Statement.{statement}
-use Rattle.reading.proofs.pattern.spans.Tie as tie
+use Rattle.reader.proofs.PatternLaws.{two-shifted}
+use Rattle.reader.proofs.pattern.spans.Statement.{statement}
+use Rattle.reader.proofs.pattern.spans.Tie as tie
 
 shr-result : tie.Need-shr-result
 shr-result c = search needs

@@ -1,9 +1,9 @@
 use mathlib.Core.Path.{sym, refl, _∙_}
 use borrow.Author.Needs.{needs}
 use borrow.Author.Tests.{eq-eqb, ne-eqb}
-use Rattle.reading.specs.Reading.{arrives}
-use Rattle.reading.proofs.reader.arrive.Statement.{statement}
-use Rattle.reading.proofs.reader.arrive.Tie as tie
+use Rattle.reader.specs.Reading.{arrives}
+use Rattle.reader.proofs.reader.arrive.Statement.{statement}
+use Rattle.reader.proofs.reader.arrive.Tie as tie
 
 pub arrive-spec : {M : Type 1} → statement M
 unfolding arrives

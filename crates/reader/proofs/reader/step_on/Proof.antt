@@ -2,10 +2,10 @@ use mathlib.Core.Path.{sym, _∙_}
 use native.Mathlib.Omega.{arith}
 use borrow.Author.Needs.{needs}
 use borrow.Author.Tests.{le-leb, lt-leb}
-use Rattle.reading.specs.Reading.{goesOn}
-use Rattle.reading.proofs.PatternLaws.{Small, clocked, clock-asks, within-page}
-use Rattle.reading.proofs.reader.step_on.Statement.{statement}
-use Rattle.reading.proofs.reader.step_on.Tie as tie
+use Rattle.reader.specs.Reading.{goesOn}
+use Rattle.reader.proofs.PatternLaws.{Small, clocked, clock-asks, within-page}
+use Rattle.reader.proofs.reader.step_on.Statement.{statement}
+use Rattle.reader.proofs.reader.step_on.Tie as tie
 
 pub step-on-spec : {M : Type 1} → statement M
 unfolding goesOn

@@ -2,9 +2,9 @@
 use mathlib.Core.Path.{sym, _∙_}
 use native.Mathlib.Omega.{arith}
 use borrow.Author.Needs.{needs}
-use Rattle.reading.proofs.PatternLaws.{Small, hsm-span, lsm-span, after-bit, after-clock, after-155, after-end}
-use Rattle.reading.proofs.pattern.pattern_asks.Statement.{statement}
-use Rattle.reading.proofs.pattern.pattern_asks.Tie as tie
+use Rattle.reader.proofs.PatternLaws.{Small, hsm-span, lsm-span, after-bit, after-clock, after-155, after-end}
+use Rattle.reader.proofs.pattern.pattern_asks.Statement.{statement}
+use Rattle.reader.proofs.pattern.pattern_asks.Tie as tie
 
 spans-requires : tie.Need-spans-requires
 spans-requires c κs = search needs

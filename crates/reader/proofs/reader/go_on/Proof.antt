@@ -2,10 +2,10 @@ use mathlib.Core.Path.{sym, ap, _∙_}
 use native.Mathlib.Omega.{arith}
 use borrow.Author.Needs.{needs}
 use Rattle.gap.specs.Gaps.{judgementOf}
-use Rattle.reading.specs.Reading.{goesOn}
-use Rattle.reading.proofs.PatternLaws.{counted-small}
-use Rattle.reading.proofs.reader.go_on.Statement.{statement}
-use Rattle.reading.proofs.reader.go_on.Tie as tie
+use Rattle.reader.specs.Reading.{goesOn}
+use Rattle.reader.proofs.PatternLaws.{counted-small}
+use Rattle.reader.proofs.reader.go_on.Statement.{statement}
+use Rattle.reader.proofs.reader.go_on.Tie as tie
 
 pub go-on-spec : {M : Type 1} → statement M
 unfolding goesOn

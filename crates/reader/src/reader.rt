@@ -3,10 +3,10 @@ ghost use mathlib.Core.Path.{_≡_};
 ghost use Prim.Native.Nat.{_≤_};
 ghost use Rattle.refusal.specs.Answers.{said};
 ghost use Rattle.gap.specs.declared.modes.Judgement.the-variants.{Positions};
-ghost use Rattle.reading.specs.declared.reader.Reader.the-variants.{Open, Dropping};
+ghost use Rattle.reader.specs.declared.reader.Reader.the-variants.{Open, Dropping};
 ghost use Rattle.gap.specs.Clock.{timeBetween};
 ghost use Rattle.gap.specs.Gaps.{judgementOf};
-ghost use Rattle.reading.specs.Reading.{Gives, bring, withBit, arrives, goesOn, dropsOn, edgeOf};
+ghost use Rattle.reader.specs.Reading.{Gives, bring, withBit, arrives, goesOn, dropsOn, edgeOf};
 use crate::pattern::is_clock;
 use crate::pattern::pattern_asks;
 use gap::Judgement;
@@ -114,8 +114,8 @@ fn go_on(mode: LineMode, at: u32, last: u32, bits: u64, reading: u32) -> Step
     }
 }
 
-// An edge after an attempt has ended.
-pub(crate) fn drop_on(mode: LineMode, last: u32, reading: u32) -> Step
+// An edge after an attempt has ended. Whoever walks over dropped edges has no need to look at the reader's kind at each.
+pub fn drop_on(mode: LineMode, last: u32, reading: u32) -> Step
     ensures { λ r. ⌜ Gives r (dropsOn reading (judgementOf mode (timeBetween reading last))) ⌝ }
 {
     match mode.judgement(time_between(reading, last)) {

@@ -8,12 +8,12 @@ use Rattle.page.specs.CheckBits.{agrees}
 use Rattle.gap.specs.declared.modes.LineMode.{LineMode}
 use Rattle.gap.specs.declared.modes.Judgement.{Judgement}
 use Rattle.gap.specs.declared.modes.Judgement.the-variants.{Positions, Quiet, Unfit}
-use Rattle.reading.specs.declared.reader.Reader.{Reader}
-use Rattle.reading.specs.declared.reader.Reader.the-variants.{Fresh, Open, Dropping}
-use Rattle.reading.specs.declared.reader.Step.{Step}
+use Rattle.reader.specs.declared.reader.Reader.{Reader}
+use Rattle.reader.specs.declared.reader.Reader.the-variants.{Fresh, Open, Dropping}
+use Rattle.reader.specs.declared.reader.Step.{Step}
 use Rattle.gap.specs.Clock.{timeBetween}
 use Rattle.gap.specs.Gaps.{judgementOf}
-use Rattle.reading.specs.Pattern.{isClock, asks}
+use Rattle.reader.specs.Pattern.{isClock, asks}
 
 -- What an edge brings: what is said, and the reader afterwards.
 pub record Brings : Type 0 where
