@@ -193,7 +193,7 @@ fn answer_one(
 {
     if operation == 1 {
         if 1 <= size {
-            return tell_one(answers, told, page::check(cells[from]).packed());
+            return tell_one(answers, told, check_bits::check(cells[from]).packed());
         }
     }
     if operation == 2 {

@@ -3,7 +3,7 @@ use mathlib.Core.Path.{_≡_, refl}
 use mathlib.Core.Bool.{xor}
 use Prim.Native.Nat.{ℕ, _^_}
 use lib.ListN.{length, getD}
-use Rattle.page.specs.CheckBits.{checkList, remainder}
+use Rattle.check_bits.specs.CheckBits.{checkList, remainder}
 use Rattle.gap.specs.Clock.{timeBetween}
 use Rattle.gap.specs.Modes.{hsmMode, lsmMode}
 use Rattle.line.specs.Transitions.{sentBits, hasTransition, positionsTo, transitions, readings, edgeCount}

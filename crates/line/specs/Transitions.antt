@@ -5,7 +5,7 @@ use mathlib.Core.List.{List, [], _∷_, _++_, map}
 use lib.Dec.{leb}
 use lib.ListN.{length, getD}
 use Rattle.page.specs.Word.{odd, bitsOf}
-use Rattle.page.specs.CheckBits.{checkList}
+use Rattle.check_bits.specs.CheckBits.{checkList}
 use Rattle.gap.specs.declared.modes.LineMode.{LineMode}
 use Rattle.gap.specs.Delimiters.{among, hsmDelimiter, lsmDelimiter}
 

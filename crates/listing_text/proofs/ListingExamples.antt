@@ -2,7 +2,7 @@
 use mathlib.Core.Path.{_≡_, refl}
 use mathlib.Core.Bool.{xor}
 use mathlib.Core.List.{[], _∷_, _++_}
-use Rattle.page.specs.CheckBits.{checkBits, checkList, remainder, agrees}
+use Rattle.check_bits.specs.CheckBits.{checkBits, checkList, remainder, agrees}
 use Rattle.line.specs.Transitions.{sentBits, hasTransition, positionsTo, transitions, readings}
 use Rattle.reading.specs.Captures.{readOf, readIn, attemptOf, opensAt}
 use Rattle.gap.specs.Gaps.{judgementOf}

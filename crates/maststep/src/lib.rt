@@ -1,7 +1,7 @@
 // The C functions of the static library, thin over the crates: each gives the answer as one number. include/maststep.h declares them.
 ghost use mathlib.Core.Path.{_≡_};
 ghost use Rattle.refusal.specs.Answers.{packed};
-ghost use Rattle.page.specs.Checked.{checked};
+ghost use Rattle.check_bits.specs.Checked.{checked};
 ghost use Rattle.gap.specs.Gaps.{judged};
 ghost use Rattle.line.specs.Writing.{writeSays, writeLeaves};
 ghost use Rattle.reading.specs.Captures.{readOf};
@@ -12,7 +12,7 @@ ghost use Rattle.maststep.specs.NextPlace.{nextLeft};
 pub extern "C" fn maststep_check(word: u64) -> u64
     ensures { λ r. ⌜ r ≡ packed (checked word) ⌝ }
 {
-    page::check(word).packed()
+    check_bits::check(word).packed()
 }
 
 // How a gap counts in a mode, or 14.

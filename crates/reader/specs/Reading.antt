@@ -4,7 +4,7 @@ use mathlib.Core.Path.{_≡_}
 use mathlib.Core.Bool.{Bool, cond}
 use lib.Dec.{eqb}
 use Rattle.refusal.specs.Answers.{Said, said, nothing, refused, pageRead}
-use Rattle.page.specs.CheckBits.{agrees}
+use Rattle.check_bits.specs.CheckBits.{agrees}
 use Rattle.gap.specs.declared.modes.LineMode.{LineMode}
 use Rattle.gap.specs.declared.modes.Judgement.{Judgement}
 use Rattle.gap.specs.declared.modes.Judgement.the-variants.{Positions, Quiet, Unfit}

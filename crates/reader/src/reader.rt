@@ -71,7 +71,7 @@ fn arrive(at: u32, bits: u64, reading: u32) -> Step
     ensures { λ r. ⌜ Gives r (arrives at bits reading) ⌝ }
 {
     if at == 157 {
-        if page::bits_agree(bits) {
+        if check_bits::bits_agree(bits) {
             return dropped(Answer::Page(bits % 281474976710656), reading);
         }
         return dropped(Answer::Refused(Refusal::Check), reading);

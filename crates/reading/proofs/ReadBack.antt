@@ -9,7 +9,7 @@ use native.Mathlib.Omega.{arith}
 use lib.ListN.{length}
 use borrow.Author.Tests.{eqb-true, ne-eqb, eq-eqb}
 use Rattle.refusal.specs.Answers.{Said, nothing, refused, pageRead}
-use Rattle.page.specs.CheckBits.{agrees}
+use Rattle.check_bits.specs.CheckBits.{agrees}
 use Rattle.gap.specs.declared.modes.LineMode.{LineMode}
 use Rattle.gap.specs.declared.modes.Judgement.the-variants.{Positions}
 use Rattle.reader.specs.declared.reader.Reader.{Reader}

@@ -2,7 +2,7 @@
 use mathlib.Core.Path.{_≡_, refl}
 use mathlib.Core.Bool.{xor}
 use mathlib.Core.List.{[], _∷_}
-use Rattle.page.specs.CheckBits.{checkBits, checkList, remainder, agrees}
+use Rattle.check_bits.specs.CheckBits.{checkBits, checkList, remainder, agrees}
 use Rattle.refusal.specs.Answers.{pageRead, refused}
 use Rattle.reader.specs.declared.reader.Reader.the-variants.{Fresh}
 use Rattle.gap.specs.Modes.{hsmMode, lsmMode}

@@ -9,11 +9,11 @@ use native.Mathlib.Omega.{arith}
 use lib.ListN.{length, replicate, length-append}
 use lib.Bits.{bitXor}
 use lib.Pow.{shr-shr}
 use Rattle.page.specs.Word.{odd, bitsOf}
-use Rattle.page.specs.CheckBits.{plus, generator, divided, remainder, numeral}
-use Rattle.page.proofs.Polynomials.{false-xor, plus-comm, plus-length}
-use Rattle.page.proofs.Remainders.{lower, remainder-length, one-more}
-use Rattle.page.proofs.BinaryNumbers.{bit, odd-bit, highest, below, doubled, numeral-plus}
+use Rattle.check_bits.specs.CheckBits.{plus, generator, divided, remainder, numeral}
+use Rattle.check_bits.proofs.Polynomials.{false-xor, plus-comm, plus-length}
+use Rattle.check_bits.proofs.Remainders.{lower, remainder-length, one-more}
+use Rattle.check_bits.proofs.BinaryNumbers.{bit, odd-bit, highest, below, doubled, numeral-plus}
 
 -- The first bits of a number, one more: it stands at the end.
 pub bits-more : (n w : ℕ) → bitsOf (suc n) w ≡ bitsOf n w ++ (odd (w / 2 ^ n) ∷ [])

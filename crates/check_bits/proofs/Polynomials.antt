@@ -6,7 +6,7 @@ use Prim.Native.Nat.{ℕ, zero, suc, _+_, _≤_}
 use native.Mathlib.Nat.{le-of-suc-le-suc, not-suc-le-zero}
 use native.Mathlib.Omega.{arith}
 use lib.ListN.{length, replicate}
-use Rattle.page.specs.CheckBits.{plus}
+use Rattle.check_bits.specs.CheckBits.{plus}
 
 pub xor-false : (a : Bool) → xor a false ≡ a
 unfolding xor

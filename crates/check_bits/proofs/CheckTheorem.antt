@@ -5,10 +5,10 @@ use mathlib.Core.Bool.{Bool, false, xor}
 use mathlib.Core.List.{List, _++_}
 use Prim.Native.Nat.{ℕ, _<_, _^_}
 use lib.ListN.{length, replicate}
 use Rattle.page.specs.Word.{bitsOf}
-use Rattle.page.specs.CheckBits.{remainder, numeral, checkList, checkBits}
-use Rattle.page.proofs.Remainders.{times, quotient, remainder-length, divisible, no-other}
-use Rattle.page.proofs.BinaryNumbers.{digitsOf, digits-length, digits-numeral, numeral-digits, below}
+use Rattle.check_bits.specs.CheckBits.{remainder, numeral, checkList, checkBits}
+use Rattle.check_bits.proofs.Remainders.{times, quotient, remainder-length, divisible, no-other}
+use Rattle.check_bits.proofs.BinaryNumbers.{digitsOf, digits-length, digits-numeral, numeral-digits, below}
 
 -- The 48 bits of a word and sixteen of a number are some polynomial times the divisor.
 abbrev pub Divides : ℕ → ℕ → Type 0

@@ -3,9 +3,9 @@ use mathlib.Core.Logic.{⊎-elim}
 use Prim.Native.Nat.{_-_}
 use native.Mathlib.Omega.{arith}
 use borrow.Author.Needs.{needs}
-use Rattle.page.proofs.Register.{Going, start, turn-low, turn-high, finish}
-use Rattle.page.proofs.division.register_after.Statement.{statement}
-use Rattle.page.proofs.division.register_after.Tie as tie
+use Rattle.check_bits.proofs.Register.{Going, start, turn-low, turn-high, finish}
+use Rattle.check_bits.proofs.division.register_after.Statement.{statement}
+use Rattle.check_bits.proofs.division.register_after.Tie as tie
 
 abbrev Inv-loop : tie.InvT-loop
 Inv-loop bits count register₀ rest₀ i₀ register rest i = Going count bits register rest i

@@ -11,8 +11,8 @@ use lib.Arith.{digits-div}
 use lib.Bits.{bitXor, xor-step, differ}
 use lib.Pow.{mod-pow-add}
 use borrow.Author.Tests.{eqb-true, eqb-false}
 use Rattle.page.specs.Word.{odd}
-use Rattle.page.specs.CheckBits.{plus, numeral}
+use Rattle.check_bits.specs.CheckBits.{plus, numeral}
 
 -- A bit as a number.
 abbrev pub bit : Bool → ℕ

@@ -9,13 +9,13 @@ use lib.Dec.{eqb}
 use lib.ListN.{length, replicate, drop}
 use lib.Seq.{drop-at}
 use borrow.Author.Tests.{eq-eqb, ne-eqb, eqb-true, eqb-false}
 use Rattle.page.specs.Word.{bitsOf}
-use Rattle.page.specs.CheckBits.{plus, divided, remainder, numeral, checkList, checkBits, agrees}
-use Rattle.page.proofs.Polynomials.{plus-comm, plus-twice, plus-length, plus-append, plus-self, plus-zeros}
-use Rattle.page.proofs.Remainders.{remainder-length, more-bits}
-use Rattle.page.proofs.Multiples.{ended}
-use Rattle.page.proofs.WordBits.{bits-length, bits-split}
-use Rattle.page.proofs.BinaryNumbers.{digitsOf, digits-numeral}
+use Rattle.check_bits.specs.CheckBits.{plus, divided, remainder, numeral, checkList, checkBits, agrees}
+use Rattle.check_bits.proofs.Polynomials.{plus-comm, plus-twice, plus-length, plus-append, plus-self, plus-zeros}
+use Rattle.check_bits.proofs.Remainders.{remainder-length, more-bits}
+use Rattle.check_bits.proofs.Multiples.{ended}
+use Rattle.check_bits.proofs.WordBits.{bits-length, bits-split}
+use Rattle.check_bits.proofs.BinaryNumbers.{digitsOf, digits-numeral}
 
 -- Sixteen bits behind a message: they are added to its remainder, and sixteen steps are made.
 sixteen-more : (m s : List Bool) → length s ≡ 16 → remainder (m ++ s) ≡ divided 16 (plus (remainder m) s ++ replicate 16 false)

@@ -7,8 +7,8 @@ use native.Mathlib.Nat.{add-comm, suc-add, zero-add, mul-comm, div-one, mod-one,
 use native.Mathlib.Numerals.{add-one, one-add}
 use lib.ListN.{length}
 use lib.Pow.{mod-pow-add, shr-shr}
 use Rattle.page.specs.Word.{bitsOf, odd}
-use Rattle.page.proofs.BinaryNumbers.{bit, odd-bit}
+use Rattle.check_bits.proofs.BinaryNumbers.{bit, odd-bit}
 
 -- How many they are, and the first bits of a number in two runs.
 pub bits-length : (n w : ℕ) → length (bitsOf n w) ≡ n

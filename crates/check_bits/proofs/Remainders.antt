@@ -7,8 +7,8 @@ use Prim.Native.Nat.{ℕ, zero, suc, _+_, _≤_, _<_}
 use native.Mathlib.Nat.{zero-add, suc-add}
 use native.Mathlib.Omega.{arith}
 use lib.ListN.{length, replicate, drop, length-append, length-replicate}
-use Rattle.page.specs.CheckBits.{plus, generator, divided, remainder}
-use Rattle.page.proofs.Polynomials.{xor-false, plus-comm, plus-assoc, plus-twice, plus-length, zeros-plus, plus-zeros, plus-parts, plus-self}
+use Rattle.check_bits.specs.CheckBits.{plus, generator, divided, remainder}
+use Rattle.check_bits.proofs.Polynomials.{xor-false, plus-comm, plus-assoc, plus-twice, plus-length, zeros-plus, plus-zeros, plus-parts, plus-self}
 
 abbrev pub zeros : ℕ → List Bool
 zeros n = replicate n false

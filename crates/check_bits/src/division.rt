@@ -2,9 +2,9 @@
 ghost use mathlib.Core.Path.{_≡_};
 ghost use Rattle.refusal.specs.Answers.{said};
 ghost use Prim.Native.Nat.{_≤_};
 ghost use Rattle.page.specs.Word.{bitsOf};
-ghost use Rattle.page.specs.CheckBits.{remainder, numeral, checkBits, agrees};
-ghost use Rattle.page.specs.Checked.{checked};
+ghost use Rattle.check_bits.specs.CheckBits.{remainder, numeral, checkBits, agrees};
+ghost use Rattle.check_bits.specs.Checked.{checked};
 use refusal::Answer;
 use refusal::Refusal;
 

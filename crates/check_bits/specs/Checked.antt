@@ -2,8 +2,8 @@
 use Prim.Native.Nat.{ℕ}
 use mathlib.Core.Bool.{cond}
 use Rattle.refusal.specs.Answers.{Said, refused, number}
 use Rattle.page.specs.Word.{isWord}
-use Rattle.page.specs.CheckBits.{checkBits}
+use Rattle.check_bits.specs.CheckBits.{checkBits}
 
 -- The check bits of a word; Wide if it is none.
 abbrev pub checked : ℕ → Said

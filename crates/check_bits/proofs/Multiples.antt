@@ -8,10 +8,10 @@ use native.Mathlib.Nat.{zero-add, add-zero, add-comm}
 use native.Mathlib.Omega.{arith}
 use lib.ListN.{length, take, getD, length-append, length-replicate, replicate-append-replicate}
 use lib.Seq.{append-snoc, take-at, getD-at}
-use Rattle.page.specs.CheckBits.{plus, divided, remainder}
-use Rattle.page.proofs.Polynomials.{plus-comm, plus-assoc, plus-twice, plus-length, plus-append, zeros-plus}
-use Rattle.page.proofs.Remainders.{zeros, lower, scaled, times, times-length, step, scaled-fits, scaled-plus-length, one-less, two-runs, divided-length, no-other}
-use Rattle.page.proofs.BinaryNumbers.{bit, trues, trues-append}
+use Rattle.check_bits.specs.CheckBits.{plus, divided, remainder}
+use Rattle.check_bits.proofs.Polynomials.{plus-comm, plus-assoc, plus-twice, plus-length, plus-append, zeros-plus}
+use Rattle.check_bits.proofs.Remainders.{zeros, lower, scaled, times, times-length, step, scaled-fits, scaled-plus-length, one-less, two-runs, divided-length, no-other}
+use Rattle.check_bits.proofs.BinaryNumbers.{bit, trues, trues-append}
 
 -- Four lists added in another order.
 plus-swap : (p q r s : List Bool) → plus (plus p q) (plus r s) ≡ plus (plus p r) (plus q s)

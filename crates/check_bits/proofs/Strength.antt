@@ -10,14 +10,14 @@ use native.Mathlib.Omega.{arith}
 use lib.Dec.{eqb}
 use lib.ListN.{length, take, drop, getD, length-append, length-take, take-append-drop}
 use lib.Seq.{append-snoc, take-suc, take-all, take-at, getD-take, getD-drop, drop-drop}
 use Rattle.page.specs.Word.{bitsOf}
-use Rattle.page.specs.CheckBits.{plus, remainder, checkList}
+use Rattle.check_bits.specs.CheckBits.{plus, remainder, checkList}
 use Rattle.page.proofs.ComputedTest.{everyBelow, at-each}
-use Rattle.page.proofs.Polynomials.{xor-self, plus-length}
-use Rattle.page.proofs.BinaryNumbers.{bit, trues, trues-append}
-use Rattle.page.proofs.WordBits.{sumOf, word-of-bits}
-use Rattle.page.proofs.Remainders.{zeros, times, quotient, quotient-length, remainder-length, divisible}
-use Rattle.page.proofs.Multiples.{times-plus, times-even, none-left, without-start, without-end, short-zeros}
+use Rattle.check_bits.proofs.Polynomials.{xor-self, plus-length}
+use Rattle.check_bits.proofs.BinaryNumbers.{bit, trues, trues-append}
+use Rattle.check_bits.proofs.WordBits.{sumOf, word-of-bits}
+use Rattle.check_bits.proofs.Remainders.{zeros, times, quotient, quotient-length, remainder-length, divisible}
+use Rattle.check_bits.proofs.Multiples.{times-plus, times-even, none-left, without-start, without-end, short-zeros}
 
 -- A pattern says at each place whether there is a one. In how many of the first n places two patterns differ:
 unfoldable pub differing : ℕ → (ℕ → Bool) → (ℕ → Bool) → ℕ

@@ -1,7 +1,7 @@
 use borrow.Author.Needs.{needs}
 use borrow.Author.Tests.{le-ltb, lt-ltb}
-use Rattle.page.proofs.division.check.Statement.{statement}
-use Rattle.page.proofs.division.check.Tie as tie
+use Rattle.check_bits.proofs.division.check.Statement.{statement}
+use Rattle.check_bits.proofs.division.check.Tie as tie
 
 pub check-spec : {M : Type 1} → statement M
 check-spec =
