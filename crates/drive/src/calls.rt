@@ -2,8 +2,8 @@
 ghost use mathlib.Core.Path.{_≡_};
 ghost use Prim.Native.Nat.{_+_, _≤_};
 ghost use lib.ListN.{length};
-use line::LineMode;
-use reading::Reader;
+use gap::LineMode;
+use reader::Reader;
 use refusal::Answer;
 use refusal::Refusal;
 
@@ -205,7 +205,7 @@ fn answer_one(
 {
     if operation == 1 {
         if 1 <= size {
-            return tell_one(answers, told, page::check(cells[from]).packed());
+            return tell_one(answers, told, check_bits::check(cells[from]).packed());
         }
     }
     if operation == 2 {
@@ -213,7 +213,7 @@ fn answer_one(
             return tell_one(
                 answers,
                 told,
-                line::judge(mode_of(cells[from]), low_half(cells[from + 1])).packed(),
+                gap::judge(mode_of(cells[from]), low_half(cells[from + 1])).packed(),
             );
         }
     }

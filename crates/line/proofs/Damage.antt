@@ -9,10 +9,11 @@ use native.Mathlib.Omega.{arith}
 use lib.Dec.{eqb, ltb}
 use lib.ListN.{List·getD-eq-default}
 use borrow.Author.Tests.{ltb-true, ltb-false, eqb-true, eqb-false, ne-eqb}
-use Rattle.page.proofs.BinaryNumbers.{bit}
-use Rattle.page.proofs.Polynomials.{xor-self}
-use Rattle.page.proofs.Strength.{differing, AgreeOutside, Apart, bitAt, strength}
-use Rattle.line.specs.Transitions.{among, hsmDelimiter, lsmDelimiter, hasTransition, positionsTo, transitions, sentBits}
+use Rattle.check_bits.proofs.BinaryNumbers.{bit}
+use Rattle.check_bits.proofs.Polynomials.{xor-self}
+use Rattle.check_bits.proofs.Strength.{differing, AgreeOutside, Apart, bitAt, strength}
+use Rattle.gap.specs.Delimiters.{among, hsmDelimiter, lsmDelimiter}
+use Rattle.line.specs.Transitions.{hasTransition, positionsTo, transitions, sentBits}
 use Rattle.line.proofs.PagePattern.{in-delimiter, at-clock, at-bit, at-156}
 use Rattle.line.proofs.SentBits.{sent-length}
 

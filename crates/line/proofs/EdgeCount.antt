@@ -11,9 +11,9 @@ use lib.ListN.{length, take, getD, length-append}
 use lib.Pow.{pow-pos, mod-pow-add, shr-lt}
 use lib.Seq.{take-suc, take-all}
 use Rattle.page.specs.Word.{odd, bitsOf}
-use Rattle.page.specs.CheckBits.{checkBits, checkList}
-use Rattle.page.proofs.BinaryNumbers.{bit, odd-bit, digitsOf, trues, trues-append}
-use Rattle.page.proofs.CheckTheorem.{checkList-digits, check-below}
+use Rattle.check_bits.specs.CheckBits.{checkBits, checkList}
+use Rattle.check_bits.proofs.BinaryNumbers.{bit, odd-bit, digitsOf, trues, trues-append}
+use Rattle.check_bits.proofs.CheckTheorem.{checkList-digits, check-below}
 use Rattle.line.specs.Transitions.{hasTransition, positionsTo, transitions, sentBits}
 use Rattle.line.proofs.PagePattern.{at-clock, at-bit, at-156}
 use Rattle.line.proofs.SentBits.{sent-length}

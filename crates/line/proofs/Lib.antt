@@ -5,5 +5,4 @@ pub mod EdgeCount
 pub mod WritingLoop
 pub mod WrittenList
 pub mod LineExamples
-pub mod Windows
 pub mod Damage

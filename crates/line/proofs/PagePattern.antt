@@ -8,8 +8,9 @@ use lib.Dec.{leb, eqb}
 use lib.ListN.{getD}
 use borrow.Author.Tests.{leb-false, eqb-false, le-leb, lt-leb, eq-eqb, ne-eqb}
 use Rattle.page.specs.Word.{odd}
-use Rattle.page.specs.CheckBits.{checkBits}
-use Rattle.line.specs.Transitions.{among, hsmDelimiter, lsmDelimiter, hasTransition, sentBits}
+use Rattle.check_bits.specs.CheckBits.{checkBits}
+use Rattle.gap.specs.Delimiters.{among, hsmDelimiter, lsmDelimiter}
+use Rattle.line.specs.Transitions.{hasTransition, sentBits}
 use Rattle.page.proofs.ComputedTest.{everyBelow, at-each, beq-equal}
 use Rattle.line.proofs.SentBits.{data-bit, check-bit}
 

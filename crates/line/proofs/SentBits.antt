@@ -10,10 +10,10 @@ use lib.ListN.{length, getD, length-append, List·getD-append}
 use lib.Pow.{shr-shr}
 use lib.Seq.{getD-append-add}
 use Rattle.page.specs.Word.{odd, bitsOf}
-use Rattle.page.specs.CheckBits.{checkList, checkBits}
-use Rattle.page.proofs.BinaryNumbers.{digitsOf, digit-at}
-use Rattle.page.proofs.WordBits.{bits-length}
-use Rattle.page.proofs.CheckTheorem.{checkList-length, checkList-digits}
+use Rattle.check_bits.specs.CheckBits.{checkList, checkBits}
+use Rattle.check_bits.proofs.BinaryNumbers.{digitsOf, digit-at}
+use Rattle.check_bits.proofs.WordBits.{bits-length}
+use Rattle.check_bits.proofs.CheckTheorem.{checkList-length, checkList-digits}
 use Rattle.line.specs.Transitions.{sentBits}
 
 bit-at-place : (n w j : ℕ) → j < n → getD (bitsOf n w) j false ≡ odd (w / 2 ^ j)

@@ -8,10 +8,10 @@ use native.Mathlib.Numerals.{add-one}
 use native.Mathlib.Omega.{arith}
 use lib.ListN.{length, getD, drop, set, length-append, length-drop, length-map}
 use lib.Seq.{drop-cons, set-at}
-use Rattle.line.specs.declared.modes.LineMode.{LineMode}
+use Rattle.gap.specs.declared.modes.LineMode.{LineMode}
 use Rattle.line.specs.Transitions.{hasTransition, sentBits, positionsTo, transitions, readingAt, readings, edgeCount}
 use Rattle.line.proofs.EdgeCount.{count-more}
-use Rattle.page.proofs.BinaryNumbers.{bit}
+use Rattle.check_bits.proofs.BinaryNumbers.{bit}
 
 pub more-yes : (test : ℕ → Bool) (n : ℕ) → test (suc n) ≡ true → positionsTo test (suc n) ≡ positionsTo test n ++ (suc n ∷ [])
 unfolding positionsTo

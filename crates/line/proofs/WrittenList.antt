@@ -8,7 +8,7 @@ use lib.ListN.{length, take, drop, length-drop, drop-of-length-le}
 use lib.Seq.{drop-drop}
 use borrow.Author.Tests.{lt-ltb, le-ltb, le-leb, lt-leb}
 use Rattle.refusal.specs.Answers.{Said, refused, number}
-use Rattle.line.specs.declared.modes.LineMode.{LineMode}
+use Rattle.gap.specs.declared.modes.LineMode.{LineMode}
 use Rattle.line.specs.Transitions.{readings, edgeCount, transitions}
 use Rattle.line.specs.Writing.{placed, saysIn, leavesIn}
 use Rattle.line.proofs.LentTail.{whole-tail}

@@ -1,5 +1,2 @@
-pub mod Clock
-pub mod Modes
-pub mod Gaps
 pub mod Transitions
 pub mod Writing

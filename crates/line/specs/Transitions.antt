@@ -1,25 +1,13 @@
 -- 01, "The line": "A page has 157 evenly spaced positions." Where its transitions are, and when.
 use Prim.Native.Nat.{ℕ, zero, suc, _+_, _-_, _*_, _/_, _%_, _^_}
-use mathlib.Core.Bool.{Bool, true, false, cond, _||_}
+use mathlib.Core.Bool.{Bool, true, false, cond}
 use mathlib.Core.List.{List, [], _∷_, _++_, map}
-use lib.Dec.{eqb, leb}
+use lib.Dec.{leb}
 use lib.ListN.{length, getD}
 use Rattle.page.specs.Word.{odd, bitsOf}
-use Rattle.page.specs.CheckBits.{checkList}
-use Rattle.line.specs.declared.modes.LineMode.{LineMode}
-
--- Whether a number is one of a list's.
-abbrev pub among : ℕ → List ℕ → Bool
-among p [] = false
-among p (q ∷ rest) = eqb p q || among p rest
-
--- "Delimiter transitions among 1-26", and of these "HSM: 1, 2, 3, 5, 7, 8, 12, 13, 14, 15, 19, 21, 24, 25, 26"
-abbrev pub hsmDelimiter : List ℕ
-hsmDelimiter = 1 ∷ 2 ∷ 3 ∷ 5 ∷ 7 ∷ 8 ∷ 12 ∷ 13 ∷ 14 ∷ 15 ∷ 19 ∷ 21 ∷ 24 ∷ 25 ∷ 26 ∷ []
-
--- "LSM: 1-9, 11, 13, 15, 16, 18, 19, 20, 22, 23, 24, 26"
-abbrev pub lsmDelimiter : List ℕ
-lsmDelimiter = 1 ∷ 2 ∷ 3 ∷ 4 ∷ 5 ∷ 6 ∷ 7 ∷ 8 ∷ 9 ∷ 11 ∷ 13 ∷ 15 ∷ 16 ∷ 18 ∷ 19 ∷ 20 ∷ 22 ∷ 23 ∷ 24 ∷ 26 ∷ []
+use Rattle.check_bits.specs.CheckBits.{checkList}
+use Rattle.gap.specs.declared.modes.LineMode.{LineMode}
+use Rattle.gap.specs.Delimiters.{among, hsmDelimiter, lsmDelimiter}
 
 -- "D0 to D47, then S15 to S0"
 unfoldable pub sentBits : ℕ → List Bool

@@ -7,8 +7,8 @@ use lib.Dec.{leb}
 use lib.ListN.{length, take, drop}
 use Rattle.refusal.specs.Answers.{Said, refused, number}
 use Rattle.page.specs.Word.{isWord}
-use Rattle.line.specs.declared.modes.LineMode.{LineMode}
-use Rattle.line.specs.Modes.{modeOf, saysBy, leavesBy}
+use Rattle.gap.specs.declared.modes.LineMode.{LineMode}
+use Rattle.gap.specs.Modes.{modeOf, saysBy, leavesBy}
 use Rattle.line.specs.Transitions.{readings, edgeCount}
 
 -- From the place on there are at least as many entries as the page has readings. Row 12 of the refusals, Room, is the contrary: "place

@@ -2,7 +2,7 @@
 ghost use mathlib.Core.Path.{_≡_};
 ghost use Prim.Native.Nat.{_/_, _^_, _<_, _≤_};
 ghost use Rattle.page.specs.Word.{odd};
-ghost use Rattle.page.specs.CheckBits.{checkBits};
+ghost use Rattle.check_bits.specs.CheckBits.{checkBits};
 ghost use Rattle.line.specs.Transitions.{sentBits, hasTransition, transitions};
 ghost use lib.ListN.{length};
 

@@ -4,14 +4,14 @@ ghost use mathlib.Core.List.{_++_};
 ghost use Prim.Native.Nat.{_≤_};
 ghost use lib.ListN.{length, drop};
 ghost use Rattle.refusal.specs.Answers.{said};
-ghost use Rattle.page.specs.CheckBits.{checkBits};
+ghost use Rattle.check_bits.specs.CheckBits.{checkBits};
 ghost use Rattle.line.specs.Transitions.{readings, edgeCount};
 ghost use Rattle.line.specs.Writing.{saysIn, leavesIn, writeSays, writeLeaves};
-use crate::modes::Found;
-use crate::modes::LineMode;
-use crate::modes::mode_of;
 use crate::transitions::edge_count;
 use crate::transitions::transition_at;
+use gap::Found;
+use gap::LineMode;
+use gap::mode_of;
 use refusal::Answer;
 use refusal::Refusal;
 
@@ -47,7 +47,7 @@ fn write_in(list: &mut [u32], place: usize, mode: LineMode, word: u64, first: u3
     if WIDE <= word {
         return Answer::Refused(Refusal::Wide);
     }
-    let check = page::check_bits(word);
+    let check = check_bits::check_bits(word);
     let count = edge_count(mode.slow, word, check) as usize;
     let length = list.len();
     // Length less place, and never place plus count: a place near 2^64 must not wrap.

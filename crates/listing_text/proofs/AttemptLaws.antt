@@ -9,11 +9,11 @@ use lib.Dec.{eqb, ltb}
 use lib.ListN.{length, drop, getD, length-drop}
 use lib.Seq.{drop-cons}
 use Rattle.refusal.specs.Answers.{Said}
-use Rattle.line.specs.declared.modes.LineMode.{LineMode}
-use Rattle.reading.specs.declared.reader.Reader.{Reader}
-use Rattle.reading.specs.declared.reader.Reader.the-variants.{Fresh, Open}
-use Rattle.line.specs.Modes.{modeOf, hsmMode, lsmMode}
-use Rattle.reading.specs.Reading.{edgeOf}
+use Rattle.gap.specs.declared.modes.LineMode.{LineMode}
+use Rattle.reader.specs.declared.reader.Reader.{Reader}
+use Rattle.reader.specs.declared.reader.Reader.the-variants.{Fresh, Open}
+use Rattle.gap.specs.Modes.{modeOf, hsmMode, lsmMode}
+use Rattle.reader.specs.Reading.{edgeOf}
 use Rattle.reading.specs.Captures.{Attempt, isOpen, opensAt, attemptOf, readIn, readOf}
 use Rattle.listing_text.specs.Listing.{attemptsFrom}
 

@@ -8,17 +8,17 @@ use borrow.Author.Tests.{le-ltb, ne-eqb}
 use lib.Dec.{eqb}
 use lib.ListN.{length, drop}
 use Rattle.refusal.specs.Answers.{Said, nothing, refused, pageRead}
-use Rattle.page.specs.CheckBits.{agrees}
-use Rattle.line.specs.declared.modes.LineMode.{LineMode}
-use Rattle.line.specs.declared.modes.Judgement.{Judgement}
-use Rattle.line.specs.declared.modes.Judgement.the-variants.{Positions, Quiet, Unfit}
-use Rattle.reading.specs.declared.reader.Reader.{Reader}
-use Rattle.reading.specs.declared.reader.Reader.the-variants.{Fresh, Open, Dropping}
-use Rattle.line.specs.Clock.{timeBetween}
-use Rattle.line.specs.Gaps.{judgementOf}
-use Rattle.line.specs.Modes.{hsmMode, lsmMode, modeOf}
-use Rattle.reading.specs.Pattern.{asks}
-use Rattle.reading.specs.Reading.{Brings, withBit, arrives, goesOn, dropsOn, edgeOf}
+use Rattle.check_bits.specs.CheckBits.{agrees}
+use Rattle.gap.specs.declared.modes.LineMode.{LineMode}
+use Rattle.gap.specs.declared.modes.Judgement.{Judgement}
+use Rattle.gap.specs.declared.modes.Judgement.the-variants.{Positions, Quiet, Unfit}
+use Rattle.reader.specs.declared.reader.Reader.{Reader}
+use Rattle.reader.specs.declared.reader.Reader.the-variants.{Fresh, Open, Dropping}
+use Rattle.gap.specs.Clock.{timeBetween}
+use Rattle.gap.specs.Gaps.{judgementOf}
+use Rattle.gap.specs.Modes.{hsmMode, lsmMode, modeOf}
+use Rattle.reader.specs.Pattern.{asks}
+use Rattle.reader.specs.Reading.{Brings, withBit, arrives, goesOn, dropsOn, edgeOf}
 use Rattle.reading.specs.Captures.{Attempt, attemptOf, readIn, readOf}
 
 -- What is said at the end of an attempt.

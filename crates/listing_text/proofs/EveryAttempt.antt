@@ -8,7 +8,7 @@ use native.Mathlib.Omega.{arith}
 use lib.Dec.{ltb}
 use lib.ListN.{length}
 use Rattle.refusal.specs.Answers.{Said}
-use Rattle.line.specs.Modes.{hsmMode, lsmMode, modeOf}
+use Rattle.gap.specs.Modes.{hsmMode, lsmMode, modeOf}
 use Rattle.reading.specs.Captures.{readOf}
 use Rattle.reading.proofs.Walk.{toldFresh, attemptsBy, attempts-told}
 use Rattle.listing_text.specs.Listing.{attemptsFrom, attempts}

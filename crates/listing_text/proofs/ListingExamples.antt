@@ -2,13 +2,13 @@
 use mathlib.Core.Path.{_≡_, refl}
 use mathlib.Core.Bool.{xor}
 use mathlib.Core.List.{[], _∷_, _++_}
-use Rattle.page.specs.CheckBits.{checkBits, checkList, remainder, agrees}
+use Rattle.check_bits.specs.CheckBits.{checkBits, checkList, remainder, agrees}
 use Rattle.line.specs.Transitions.{sentBits, hasTransition, positionsTo, transitions, readings}
 use Rattle.reading.specs.Captures.{readOf, readIn, attemptOf, opensAt}
-use Rattle.line.specs.Gaps.{judgementOf}
-use Rattle.line.specs.Modes.{hsmMode, modeOf}
-use Rattle.reading.specs.Pattern.{always, byBit, isClock, asks}
-use Rattle.reading.specs.Reading.{edgeOf, goesOn, arrives, dropsOn}
+use Rattle.gap.specs.Gaps.{judgementOf}
+use Rattle.gap.specs.Modes.{hsmMode, modeOf}
+use Rattle.reader.specs.Pattern.{always, byBit, isClock, asks}
+use Rattle.reader.specs.Reading.{edgeOf, goesOn, arrives, dropsOn}
 use Rattle.listing_text.specs.Words.{lineFeed, modeWord, modeName, edgesWord, goodWord, cutWord, pagesWord, badWord, refusedWord, decimal, hexDigits}
 use Rattle.listing_text.specs.Listing.{readingsOf, attemptsFrom, attempts, outcomeWord, attemptLine, attemptLines, goodOnes, badOnes, firstLine, lastLine, captureListing, refusedLine, listing}
 

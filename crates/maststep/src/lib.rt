@@ -1,9 +1,9 @@
 // The C functions of the static library, thin over the crates: each gives the answer as one number. include/maststep.h declares them.
 ghost use mathlib.Core.Path.{_≡_};
 ghost use Rattle.refusal.specs.Answers.{packed};
-ghost use Rattle.page.specs.Checked.{checked};
+ghost use Rattle.check_bits.specs.Checked.{checked};
 ghost use Rattle.resolve.specs.Resolving.{resolveSays};
-ghost use Rattle.line.specs.Gaps.{judged};
+ghost use Rattle.gap.specs.Gaps.{judged};
 ghost use Rattle.line.specs.Writing.{writeSays, writeLeaves};
 ghost use Rattle.reading.specs.Captures.{readOf};
 ghost use Rattle.maststep.specs.NextPlace.{nextLeft};
@@ -13,7 +13,7 @@ ghost use Rattle.maststep.specs.NextPlace.{nextLeft};
 pub extern "C" fn maststep_check(word: u64) -> u64
     ensures { λ r. ⌜ r ≡ packed (checked word) ⌝ }
 {
-    page::check(word).packed()
+    check_bits::check(word).packed()
 }
 
 // What two words settle on, ability and role, or 13, 4, 5, 8, 9.
@@ -29,7 +29,7 @@ pub extern "C" fn maststep_resolve(own: u64, partner: u64) -> u64
 pub extern "C" fn maststep_judge(mode: u32, gap: u32) -> u64
     ensures { λ r. ⌜ r ≡ packed (judged mode gap) ⌝ }
 {
-    line::judge(mode, gap).packed()
+    gap::judge(mode, gap).packed()
 }
 
 // Writes a page's readings into the list from a place on: their number, or 14, 13, 12.

@@ -9,9 +9,9 @@ use Rattle.refusal.specs.declared.Refusal.{Refusal}
 use Rattle.refusal.specs.declared.Refusal.the-variants.{Gap, Cut, Check, Selector, Tie, Changed, Echo, None, Roles, Register, Turn, Room, Wide, Mode, Odd}
 use Rattle.refusal.specs.Numbers.{numberOf}
 use Rattle.refusal.specs.Answers.{Said, said}
-use Rattle.reading.specs.declared.reader.Step.{Step}
-use Rattle.reading.specs.declared.reader.Reader.{Reader}
-use Rattle.reading.specs.Reading.{Brings, Gives, bring}
+use Rattle.reader.specs.declared.reader.Step.{Step}
+use Rattle.reader.specs.declared.reader.Reader.{Reader}
+use Rattle.reader.specs.Reading.{Brings, Gives, bring}
 use Rattle.state.specs.declared.Device.{Device}
 use Rattle.state.specs.declared.Reply.{Reply}
 use Rattle.state.specs.Memory.{Due, Meets, due, withReader}

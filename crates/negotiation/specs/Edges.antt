@@ -5,7 +5,7 @@ use lib.Dec.{eqb}
 use Rattle.refusal.specs.Answers.{Said, nothing, refused, pageRead}
 use Rattle.page.specs.Fields.{fieldOf}
 use Rattle.page.specs.declared.fields.Field.the-variants as field
-use Rattle.reading.specs.Reading.{Brings, edgeOf}
+use Rattle.reader.specs.Reading.{Brings, edgeOf}
 use Rattle.state.specs.declared.State.{State}
 use Rattle.state.specs.declared.State.the-variants.{Off, Break, Ability, Ack, Complete, CheckLink, Up}
 use Rattle.state.specs.declared.Flags.{Flags}

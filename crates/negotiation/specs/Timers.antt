@@ -5,9 +5,9 @@ use mathlib.Core.List.{[], _∷_}
 use lib.Dec.{eqb, leb}
 use Rattle.refusal.specs.declared.Answer.{Answer}
 use Rattle.refusal.specs.declared.Answer.the-variants.{Nothing, Refused, Page, Order, Settled, Value, Number, Quiet, Unfit}
-use Rattle.line.specs.Clock.{timeBetween}
-use Rattle.line.specs.Modes.{lsmMode}
-use Rattle.line.specs.Transitions.{among}
+use Rattle.gap.specs.Clock.{timeBetween}
+use Rattle.gap.specs.Modes.{lsmMode}
+use Rattle.gap.specs.Delimiters.{among}
 use Rattle.negotiation.specs.declared.profile.Profile.{Profile}
 
 -- The number, the reading at which it was started, the reading now.

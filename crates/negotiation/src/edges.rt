@@ -1,7 +1,7 @@
 // An edge: the reader takes it, and a good page does what the state says.
 ghost use mathlib.Core.Path.{_≡_};
 ghost use mathlib.Core.Bool.{true};
-ghost use Rattle.reading.specs.Reading.{edgeOf};
+ghost use Rattle.reader.specs.Reading.{edgeOf};
 ghost use Rattle.state.specs.declared.State.the-variants.{Ack};
 ghost use Rattle.state.specs.Memory.{Meets, withState, withTalk, withReader};
 ghost use Rattle.negotiation.specs.Memories.{marking, holding};
@@ -15,7 +15,7 @@ use crate::replies::answered;
 use crate::replies::is_talking;
 use page::Field;
 use page::get;
-use reading::Reader;
+use reader::Reader;
 use refusal::Answer;
 use refusal::Refusal;
 use state::Device;

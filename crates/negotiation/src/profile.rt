@@ -1,8 +1,8 @@
 // The numbers of the timers, and when one has run out.
 ghost use mathlib.Core.Path.{_≡_};
 ghost use Rattle.negotiation.specs.Timers.{runOut, lowSpeed, inhibitFor, inhibitOf, hasRate};
-use line::LineMode;
-use line::time_between;
+use gap::LineMode;
+use gap::time_between;
 use refusal::Answer;
 
 // The line mode's numbers, and those of the break timer, silent and wait, in ns.

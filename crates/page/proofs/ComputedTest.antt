@@ -27,10 +27,6 @@ at-each (suc n) test h k l = by (at-each n test (and-right (test n) (everyBelow 
     by below true e = subst (λ (j : ℕ). test j ≡ true) (sym (eqb-true k n e)) (and-left (test n) (everyBelow n test) h)
     by below false e = let ne = eqb-false k n e in below (omega arith)
 
-pub and-false : (b : Bool) → (b && false) ≡ false
-and-false true = refl
-and-false false = refl
-
 -- Two Bools that are found equal are.
 pub beq-equal : (a b : Bool) → Bool·beq a b ≡ true → a ≡ b
 beq-equal true true h = refl

@@ -1,11 +1,2 @@
 pub mod ComputedTest
 pub mod FieldLaws
-pub mod Polynomials
-pub mod Remainders
-pub mod BinaryNumbers
-pub mod WordBits
-pub mod Register
-pub mod CheckTheorem
-pub mod Agreement
-pub mod Multiples
-pub mod Strength

@@ -1,4 +1,2 @@
 pub mod Word
 pub mod Fields
-pub mod CheckBits
-pub mod Checked

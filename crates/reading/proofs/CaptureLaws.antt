@@ -10,14 +10,14 @@ use lib.Dec.{eqb}
 use lib.ListN.{length, getD, take, drop, length-drop, drop-of-length-le}
 use lib.Seq.{drop-cons, take-all}
 use Rattle.refusal.specs.Answers.{Said, refused}
-use Rattle.line.specs.declared.modes.LineMode.{LineMode}
-use Rattle.reading.specs.declared.reader.Reader.{Reader}
-use Rattle.reading.specs.declared.reader.Reader.the-variants.{Fresh, Dropping}
-use Rattle.line.specs.declared.modes.Judgement.{Judgement}
-use Rattle.line.specs.declared.modes.Judgement.the-variants.{Positions, Quiet, Unfit}
-use Rattle.line.specs.Clock.{timeBetween}
-use Rattle.line.specs.Gaps.{judgementOf}
-use Rattle.reading.specs.Reading.{edgeOf, dropsOn}
+use Rattle.gap.specs.declared.modes.LineMode.{LineMode}
+use Rattle.reader.specs.declared.reader.Reader.{Reader}
+use Rattle.reader.specs.declared.reader.Reader.the-variants.{Fresh, Dropping}
+use Rattle.gap.specs.declared.modes.Judgement.{Judgement}
+use Rattle.gap.specs.declared.modes.Judgement.the-variants.{Positions, Quiet, Unfit}
+use Rattle.gap.specs.Clock.{timeBetween}
+use Rattle.gap.specs.Gaps.{judgementOf}
+use Rattle.reader.specs.Reading.{edgeOf, dropsOn}
 use Rattle.reading.specs.Captures.{Attempt, ends, isOpen, opensAt, attemptOf}
 
 -- One edge of the tail.

@@ -4,14 +4,14 @@ use mathlib.Core.List.{List, [], _∷_, _++_, map, Forall₂}
 use Prim.Native.Nat.{ℕ, _-_, _^_, _<_}
 use lib.ListN.{length, replicate}
 use Rattle.refusal.specs.Answers.{Said, nothing}
-use Rattle.line.specs.declared.modes.LineMode.{LineMode}
-use Rattle.line.specs.declared.modes.Judgement.the-variants.{Positions}
-use Rattle.reading.specs.declared.reader.Reader.{Reader}
-use Rattle.line.specs.Clock.{timeBetween}
-use Rattle.line.specs.Gaps.{judgementOf}
+use Rattle.gap.specs.declared.modes.LineMode.{LineMode}
+use Rattle.gap.specs.declared.modes.Judgement.the-variants.{Positions}
+use Rattle.reader.specs.declared.reader.Reader.{Reader}
+use Rattle.gap.specs.Clock.{timeBetween}
+use Rattle.gap.specs.Gaps.{judgementOf}
 use Rattle.line.specs.Transitions.{transitions}
-use Rattle.reading.specs.Reading.{edgeOf}
-use Rattle.line.proofs.Windows.{Near}
+use Rattle.reader.specs.Reading.{edgeOf}
+use Rattle.gap.proofs.Windows.{Near}
 
 -- The gaps of a list: of each entry and the one before it.
 abbrev pub gapsAfter : (ℕ → ℕ → ℕ) → ℕ → List ℕ → List ℕ

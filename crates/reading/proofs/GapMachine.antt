@@ -12,9 +12,9 @@ use lib.Dec.{eqb, leb}
 use lib.ListN.{length}
 use borrow.Author.Tests.{eqb-true, leb-true, le-leb, not-true}
 use Rattle.page.proofs.ComputedTest.{everyBelow, at-each, beq-equal, and-left, and-right}
-use Rattle.line.specs.Transitions.{hsmDelimiter, lsmDelimiter}
-use Rattle.reading.specs.Pattern.{always, byBit, isClock, asks}
-use Rattle.reading.specs.Reading.{withBit}
+use Rattle.gap.specs.Delimiters.{hsmDelimiter, lsmDelimiter}
+use Rattle.reader.specs.Pattern.{always, byBit, isClock, asks}
+use Rattle.reader.specs.Reading.{withBit}
 use Rattle.reading.proofs.EdgeRuns.{gaps}
 
 -- Whether counts of one to four positions lead from position p to the end, each as the pattern asks.

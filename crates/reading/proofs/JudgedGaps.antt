@@ -8,11 +8,11 @@ use native.Mathlib.Omega.{arith}
 use lib.Dec.{leb}
 use borrow.Author.Tests.{leb-true}
 use Rattle.page.proofs.ComputedTest.{and-left, and-right}
-use Rattle.line.specs.declared.modes.LineMode.{LineMode}
-use Rattle.line.specs.declared.modes.Judgement.{Judgement}
-use Rattle.line.specs.declared.modes.Judgement.the-variants.{Positions, Quiet, Unfit}
-use Rattle.line.specs.Gaps.{within, judgementOf}
-use Rattle.line.proofs.Windows.{Apart, Near, counts-one, counts-two, counts-three, counts-four}
+use Rattle.gap.specs.declared.modes.LineMode.{LineMode}
+use Rattle.gap.specs.declared.modes.Judgement.{Judgement}
+use Rattle.gap.specs.declared.modes.Judgement.the-variants.{Positions, Quiet, Unfit}
+use Rattle.gap.specs.Gaps.{within, judgementOf}
+use Rattle.gap.proofs.Windows.{Apart, Near, counts-one, counts-two, counts-three, counts-four}
 use Rattle.reading.proofs.GapMachine.{passes, passed}
 
 -- A gap near one to four positions is judged to be that many.

@@ -1,5 +1,4 @@
 pub mod ReadExamples
-pub mod PatternLaws
 pub mod CaptureLaws
 pub mod EdgeRuns
 pub mod GapMachine
@@ -10,7 +9,7 @@ pub mod ReadBack
 pub mod OnlyPages
 pub mod ReadCaptures
 pub mod SinceOpened
-pub mod ClockShift
+pub mod CaptureShift
 pub mod WriteThenRead
 pub mod ReadTheorem
 pub mod ReadCalls

@@ -11,18 +11,18 @@ use lib.Dec.{eqb}
 use lib.Pow.{pow-pos}
 use borrow.Author.Tests.{eqb-true, eq-eqb}
 use Rattle.refusal.specs.Answers.{Said, nothing, refused, pageRead}
-use Rattle.page.specs.CheckBits.{agrees}
-use Rattle.page.proofs.WordBits.{sumOf}
-use Rattle.line.specs.declared.modes.LineMode.{LineMode}
-use Rattle.line.specs.declared.modes.Judgement.{Judgement}
-use Rattle.line.specs.declared.modes.Judgement.the-variants.{Positions, Quiet, Unfit}
-use Rattle.reading.specs.declared.reader.Reader.{Reader}
-use Rattle.reading.specs.declared.reader.Reader.the-variants.{Open, Dropping}
-use Rattle.line.specs.Clock.{timeBetween}
-use Rattle.line.specs.Gaps.{judgementOf}
+use Rattle.check_bits.specs.CheckBits.{agrees}
+use Rattle.check_bits.proofs.WordBits.{sumOf}
+use Rattle.gap.specs.declared.modes.LineMode.{LineMode}
+use Rattle.gap.specs.declared.modes.Judgement.{Judgement}
+use Rattle.gap.specs.declared.modes.Judgement.the-variants.{Positions, Quiet, Unfit}
+use Rattle.reader.specs.declared.reader.Reader.{Reader}
+use Rattle.reader.specs.declared.reader.Reader.the-variants.{Open, Dropping}
+use Rattle.gap.specs.Clock.{timeBetween}
+use Rattle.gap.specs.Gaps.{judgementOf}
 use Rattle.line.specs.Transitions.{sentBits}
-use Rattle.reading.specs.Pattern.{asks}
-use Rattle.reading.specs.Reading.{Brings, bring, withBit, arrives, goesOn, edgeOf}
+use Rattle.reader.specs.Pattern.{asks}
+use Rattle.reader.specs.Reading.{Brings, bring, withBit, arrives, goesOn, edgeOf}
 use Rattle.reading.proofs.JudgedGaps.{judged-counted, all-near}
 use Rattle.reading.proofs.EdgeRuns.{gapsAfter, saidAlong, onlyLast, pageGaps, WasSent}
 use Rattle.reading.proofs.GapMachine.{passes, bitsAfter, pass, gapsOf, page-bits, only-pages}

@@ -9,17 +9,17 @@ use native.Mathlib.Omega.{arith}
 use lib.ListN.{length}
 use borrow.Author.Tests.{eqb-true, ne-eqb, eq-eqb}
 use Rattle.refusal.specs.Answers.{Said, nothing, refused, pageRead}
-use Rattle.page.specs.CheckBits.{agrees}
-use Rattle.line.specs.declared.modes.LineMode.{LineMode}
-use Rattle.line.specs.declared.modes.Judgement.the-variants.{Positions}
-use Rattle.reading.specs.declared.reader.Reader.{Reader}
-use Rattle.reading.specs.declared.reader.Reader.the-variants.{Fresh, Open, Dropping}
-use Rattle.line.specs.Clock.{timeBetween}
-use Rattle.line.specs.Gaps.{judgementOf}
+use Rattle.check_bits.specs.CheckBits.{agrees}
+use Rattle.gap.specs.declared.modes.LineMode.{LineMode}
+use Rattle.gap.specs.declared.modes.Judgement.the-variants.{Positions}
+use Rattle.reader.specs.declared.reader.Reader.{Reader}
+use Rattle.reader.specs.declared.reader.Reader.the-variants.{Fresh, Open, Dropping}
+use Rattle.gap.specs.Clock.{timeBetween}
+use Rattle.gap.specs.Gaps.{judgementOf}
 use Rattle.line.specs.Transitions.{sentBits, transitions, edgeCount}
-use Rattle.reading.specs.Pattern.{asks}
-use Rattle.reading.specs.Reading.{Brings, bring, withBit, arrives, goesOn, dropsOn, edgeOf}
-use Rattle.line.proofs.Windows.{Apart, Near, counts-quiet}
+use Rattle.reader.specs.Pattern.{asks}
+use Rattle.reader.specs.Reading.{Brings, bring, withBit, arrives, goesOn, dropsOn, edgeOf}
+use Rattle.gap.proofs.Windows.{Apart, Near, counts-quiet}
 use Rattle.line.proofs.SentBits.{sent-length}
 use Rattle.reading.proofs.JudgedGaps.{all-judged}
 use Rattle.reading.proofs.EdgeRuns.{gapsAfter, gaps, edgeGaps, saidAlong, readerAfter, onlyLast, lastOf, pageGaps, Sends, AnswersLast}

@@ -12,10 +12,10 @@ use lib.Seq.{take-at, drop-at}
 use lib.Pow.{pow-add, pow-pos, shr-shr}
 use borrow.Author.Tests.{eqb-true, eq-eqb}
 use Rattle.page.specs.Word.{odd, bitsOf}
-use Rattle.page.specs.CheckBits.{numeral, remainder, checkList, checkBits, agrees}
-use Rattle.page.proofs.BinaryNumbers.{bit, digitsOf, digits-numeral}
-use Rattle.page.proofs.CheckTheorem.{checkList-length}
-use Rattle.page.proofs.WordBits.{bits-length, sumOf, sum-bits}
+use Rattle.check_bits.specs.CheckBits.{numeral, remainder, checkList, checkBits, agrees}
+use Rattle.check_bits.proofs.BinaryNumbers.{bit, digitsOf, digits-numeral}
+use Rattle.check_bits.proofs.CheckTheorem.{checkList-length}
+use Rattle.check_bits.proofs.WordBits.{bits-length, sumOf, sum-bits}
 use Rattle.line.specs.Transitions.{sentBits}
 use Rattle.line.proofs.SentBits.{sent-length}
 use Rattle.reading.proofs.GapMachine.{pushed}

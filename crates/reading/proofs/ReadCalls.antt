@@ -8,10 +8,10 @@ use lib.Dec.{eqb, ltb}
 use lib.ListN.{length, drop, length-append, length-drop}
 use borrow.Author.Tests.{ltb-true, ltb-false, eqb-true, eqb-false, lt-ltb, le-ltb, eq-eqb, ne-eqb}
 use Rattle.refusal.specs.Answers.{nothing, refused, pageRead}
-use Rattle.line.specs.declared.modes.LineMode.{LineMode}
-use Rattle.line.proofs.Windows.{Apart}
+use Rattle.gap.specs.declared.modes.LineMode.{LineMode}
+use Rattle.gap.proofs.Windows.{Apart}
 use Rattle.line.proofs.WrittenList.{has-edges}
-use Rattle.reading.specs.declared.reader.Reader.the-variants.{Fresh, Dropping}
+use Rattle.reader.specs.declared.reader.Reader.the-variants.{Fresh, Dropping}
 use Rattle.reading.specs.Captures.{Attempt, ends, opensAt, attemptOf, readIn}
 use Rattle.reading.proofs.EdgeRuns.{Sends, Begins, WasSent, lastOf}
 use Rattle.reading.proofs.ReadTheorem.{ReadsBack, reads-back}

@@ -9,14 +9,14 @@ use lib.Dec.{eqb}
 use lib.ListN.{length}
 use borrow.Author.Tests.{eqb-true}
 use Rattle.refusal.specs.Answers.{Said, nothing, pageRead}
-use Rattle.line.specs.declared.modes.LineMode.{LineMode}
-use Rattle.line.specs.declared.modes.Judgement.{Judgement}
-use Rattle.line.specs.declared.modes.Judgement.the-variants.{Positions, Quiet, Unfit}
-use Rattle.reading.specs.declared.reader.Reader.{Reader}
-use Rattle.reading.specs.declared.reader.Reader.the-variants.{Fresh, Open, Dropping}
-use Rattle.line.specs.Clock.{timeBetween}
-use Rattle.line.specs.Gaps.{judgementOf}
-use Rattle.reading.specs.Reading.{Brings, dropsOn, edgeOf}
+use Rattle.gap.specs.declared.modes.LineMode.{LineMode}
+use Rattle.gap.specs.declared.modes.Judgement.{Judgement}
+use Rattle.gap.specs.declared.modes.Judgement.the-variants.{Positions, Quiet, Unfit}
+use Rattle.reader.specs.declared.reader.Reader.{Reader}
+use Rattle.reader.specs.declared.reader.Reader.the-variants.{Fresh, Open, Dropping}
+use Rattle.gap.specs.Clock.{timeBetween}
+use Rattle.gap.specs.Gaps.{judgementOf}
+use Rattle.reader.specs.Reading.{Brings, dropsOn, edgeOf}
 use Rattle.reading.specs.Captures.{Attempt, ends, isOpen, opensAt, attemptOf}
 use Rattle.reading.proofs.EdgeRuns.{saidAlong, readerAfter, onlyLast, AnswersLast, Begins, WasSent}
 use Rattle.reading.proofs.OnlyPages.{Edge, cut, wrong, passing, ending, edge-cases, only-sent}

@@ -2,14 +2,14 @@
 use mathlib.Core.Path.{_≡_, refl}
 use mathlib.Core.Bool.{xor}
 use mathlib.Core.List.{[], _∷_}
-use Rattle.page.specs.CheckBits.{checkBits, checkList, remainder, agrees}
+use Rattle.check_bits.specs.CheckBits.{checkBits, checkList, remainder, agrees}
 use Rattle.refusal.specs.Answers.{pageRead, refused}
-use Rattle.reading.specs.declared.reader.Reader.the-variants.{Fresh}
-use Rattle.line.specs.Modes.{hsmMode, lsmMode}
-use Rattle.line.specs.Gaps.{judgementOf}
+use Rattle.reader.specs.declared.reader.Reader.the-variants.{Fresh}
+use Rattle.gap.specs.Modes.{hsmMode, lsmMode}
+use Rattle.gap.specs.Gaps.{judgementOf}
 use Rattle.line.specs.Transitions.{sentBits, hasTransition, positionsTo, transitions, readings}
-use Rattle.reading.specs.Pattern.{always, byBit, isClock, asks}
-use Rattle.reading.specs.Reading.{arrives, goesOn, dropsOn, edgeOf}
+use Rattle.reader.specs.Pattern.{always, byBit, isClock, asks}
+use Rattle.reader.specs.Reading.{arrives, goesOn, dropsOn, edgeOf}
 use Rattle.reading.specs.Captures.{ends, opensAt, attemptOf}
 
 pub record ReadExamples : Type 0 where

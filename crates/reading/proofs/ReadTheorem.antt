@@ -5,23 +5,24 @@ use mathlib.Core.List.{List, [], _∷_, _++_, append-nil}
 use Prim.Native.Nat.{ℕ, zero, suc, _+_, _-_, _*_, _%_, _^_, _<_, _≤_}
 use lib.ListN.{length, drop}
 use Rattle.refusal.specs.Answers.{Said, refused, pageRead}
-use Rattle.line.specs.declared.modes.LineMode.{LineMode}
-use Rattle.reading.specs.declared.reader.Reader.{Reader}
-use Rattle.reading.specs.declared.reader.Reader.the-variants.{Fresh, Open, Dropping}
-use Rattle.line.specs.Clock.{timeBetween}
-use Rattle.line.specs.Modes.{hsmMode, lsmMode}
+use Rattle.gap.specs.declared.modes.LineMode.{LineMode}
+use Rattle.reader.specs.declared.reader.Reader.{Reader}
+use Rattle.reader.specs.declared.reader.Reader.the-variants.{Fresh, Open, Dropping}
+use Rattle.gap.specs.Clock.{timeBetween}
+use Rattle.gap.specs.Modes.{hsmMode, lsmMode}
 use Rattle.line.specs.Transitions.{readingAt, readings, edgeCount}
 use Rattle.line.specs.Writing.{placed}
-use Rattle.reading.specs.Reading.{bring, edgeOf}
+use Rattle.reader.specs.Reading.{bring, edgeOf}
 use Rattle.reading.specs.Captures.{ends, opensAt, attemptOf, readIn}
-use Rattle.line.proofs.Windows.{Apart, hsm-apart, lsm-apart}
+use Rattle.gap.proofs.Windows.{Apart, hsm-apart, lsm-apart}
 use Rattle.reading.proofs.EdgeRuns.{saidAlong, readerAfter, onlyLast, lastOf, Sends, AnswersLast, Begins, WasSent}
 use Rattle.reading.proofs.ReadBack.{as-many, opened-reads, fresh-reads, dropping-reads, open-opens}
 use Rattle.reading.proofs.OnlyPages.{only-sent}
 use Rattle.reading.proofs.ReadCaptures.{page-answer, answered-sent}
 use Rattle.reading.proofs.SinceOpened.{SaidPage, page-said}
 use Rattle.reading.proofs.WriteThenRead.{written-read, placed-read}
-use Rattle.reading.proofs.ClockShift.{later, allLater, edge-later, attempt-later}
+use Rattle.reader.proofs.ClockShift.{later, edge-later}
+use Rattle.reading.proofs.CaptureShift.{allLater, attempt-later}
 
 pub record ReadsBack (m : LineMode) : Type 0 where
   -- A page sent is read. After a fresh reader, edges whose gaps lie in the windows of a page's gaps, one edge for each transition, are answered

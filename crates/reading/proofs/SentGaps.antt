@@ -8,7 +8,8 @@ use native.Mathlib.Nat.{add-zero, add-suc, suc-add}
 use native.Mathlib.Omega.{arith}
 use lib.ListN.{length, length-append}
 use lib.Seq.{getD-at}
-use Rattle.line.specs.Transitions.{hsmDelimiter, lsmDelimiter, hasTransition, positionsTo, transitions, sentBits}
+use Rattle.gap.specs.Delimiters.{hsmDelimiter, lsmDelimiter}
+use Rattle.line.specs.Transitions.{hasTransition, positionsTo, transitions, sentBits}
 use Rattle.line.proofs.PagePattern.{at-clock, at-bit, at-156}
 use Rattle.line.proofs.SentBits.{sent-length}
 use Rattle.line.proofs.WritingLoop.{more-yes, more-no}

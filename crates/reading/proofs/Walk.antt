@@ -12,16 +12,16 @@ use lib.ListN.{length, drop, length-drop, drop-of-length-le}
 use lib.Seq.{drop-nil, drop-drop}
 use borrow.Author.Tests.{ltb-true, ltb-false, le-ltb, ne-eqb}
 use Rattle.refusal.specs.Answers.{Said, nothing, refused, pageRead}
-use Rattle.page.specs.CheckBits.{agrees}
-use Rattle.line.specs.declared.modes.LineMode.{LineMode}
-use Rattle.line.specs.declared.modes.Judgement.{Judgement}
-use Rattle.line.specs.declared.modes.Judgement.the-variants.{Positions, Quiet, Unfit}
-use Rattle.reading.specs.declared.reader.Reader.{Reader}
-use Rattle.reading.specs.declared.reader.Reader.the-variants.{Fresh, Open, Dropping}
-use Rattle.line.specs.Clock.{timeBetween}
-use Rattle.line.specs.Gaps.{judgementOf}
-use Rattle.reading.specs.Pattern.{asks}
-use Rattle.reading.specs.Reading.{Brings, bring, withBit, arrives, goesOn, dropsOn, edgeOf}
+use Rattle.check_bits.specs.CheckBits.{agrees}
+use Rattle.gap.specs.declared.modes.LineMode.{LineMode}
+use Rattle.gap.specs.declared.modes.Judgement.{Judgement}
+use Rattle.gap.specs.declared.modes.Judgement.the-variants.{Positions, Quiet, Unfit}
+use Rattle.reader.specs.declared.reader.Reader.{Reader}
+use Rattle.reader.specs.declared.reader.Reader.the-variants.{Fresh, Open, Dropping}
+use Rattle.gap.specs.Clock.{timeBetween}
+use Rattle.gap.specs.Gaps.{judgementOf}
+use Rattle.reader.specs.Pattern.{asks}
+use Rattle.reader.specs.Reading.{Brings, bring, withBit, arrives, goesOn, dropsOn, edgeOf}
 use Rattle.reading.specs.Captures.{Attempt, ends, isOpen, opensAt, attemptOf, readIn}
 use Rattle.reading.proofs.EdgeRuns.{saidAlong, readerAfter}
 

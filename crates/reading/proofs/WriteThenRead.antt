@@ -12,15 +12,16 @@ use lib.Seq.{drop-at, length-take-le}
 use borrow.Author.Tests.{le-ltb, ne-eqb, ltb-true, leb-true}
 use Rattle.page.specs.Word.{isWord}
 use Rattle.refusal.specs.Answers.{Said, refused, number, pageRead}
-use Rattle.line.specs.declared.modes.LineMode.{LineMode}
-use Rattle.reading.specs.declared.reader.Reader.the-variants.{Fresh, Dropping}
-use Rattle.line.specs.declared.modes.Found.the-variants.{Known, Unknown}
-use Rattle.line.specs.Modes.{hsmMode, lsmMode, modeOf, saysBy, leavesBy}
-use Rattle.line.specs.Clock.{timeBetween}
-use Rattle.line.specs.Transitions.{hsmDelimiter, lsmDelimiter, transitions, sentBits, hasTransition, positionsTo, readingAt, readings, edgeCount}
+use Rattle.gap.specs.declared.modes.LineMode.{LineMode}
+use Rattle.reader.specs.declared.reader.Reader.the-variants.{Fresh, Dropping}
+use Rattle.gap.specs.declared.modes.Found.the-variants.{Known, Unknown}
+use Rattle.gap.specs.Modes.{hsmMode, lsmMode, modeOf, saysBy, leavesBy}
+use Rattle.gap.specs.Clock.{timeBetween}
+use Rattle.gap.specs.Delimiters.{hsmDelimiter, lsmDelimiter}
+use Rattle.line.specs.Transitions.{transitions, sentBits, hasTransition, positionsTo, readingAt, readings, edgeCount}
 use Rattle.line.specs.Writing.{hasRoom, placed, saysIn, leavesIn, writeSays, writeLeaves}
 use Rattle.reading.specs.Captures.{Attempt, ends, opensAt, attemptOf, readIn, readBy, readOf}
-use Rattle.line.proofs.Windows.{Apart, Near, hsm-apart, lsm-apart}
+use Rattle.gap.proofs.Windows.{Apart, Near, hsm-apart, lsm-apart}
 use Rattle.line.proofs.SentBits.{sent-length}
 use Rattle.line.proofs.PagePattern.{at-clock}
 use Rattle.line.proofs.WritingLoop.{more-yes}
@@ -30,7 +31,7 @@ use Rattle.reading.proofs.GapMachine.{passes, passed, page-passes}
 use Rattle.reading.proofs.SentGaps.{afterClock, transitions-listed, transition-gaps}
 use Rattle.reading.proofs.ReadBack.{fresh-reads}
 use Rattle.reading.proofs.ReadCaptures.{page-answer}
-use Rattle.reading.proofs.ClockShift.{time-of-distance}
+use Rattle.reader.proofs.ClockShift.{time-of-distance}
 
 module _ (m : LineMode) (first : ℕ) (clock : 4 * m .spacing < 2 ^ 32) where
   -- The readings of positions.

@@ -6,14 +6,14 @@ use mathlib.Core.List.{List, [], _∷_}
 use lib.Dec.{eqb, ltb}
 use lib.ListN.{length, drop}
 use Rattle.refusal.specs.Answers.{Said, said, nothing, refused}
-use Rattle.line.specs.declared.modes.LineMode.{LineMode}
-use Rattle.line.specs.declared.modes.Found.{Found}
-use Rattle.line.specs.declared.modes.Found.the-variants.{Known, Unknown}
-use Rattle.reading.specs.declared.reader.Reader.{Reader}
-use Rattle.reading.specs.declared.reader.Reader.the-variants.{Fresh, Open, Dropping}
+use Rattle.gap.specs.declared.modes.LineMode.{LineMode}
+use Rattle.gap.specs.declared.modes.Found.{Found}
+use Rattle.gap.specs.declared.modes.Found.the-variants.{Known, Unknown}
+use Rattle.reader.specs.declared.reader.Reader.{Reader}
+use Rattle.reader.specs.declared.reader.Reader.the-variants.{Fresh, Open, Dropping}
 use Rattle.reading.specs.declared.captures.Outcome.{Outcome}
-use Rattle.line.specs.Modes.{modeOf}
-use Rattle.reading.specs.Reading.{Brings, edgeOf}
+use Rattle.gap.specs.Modes.{modeOf}
+use Rattle.reader.specs.Reading.{Brings, edgeOf}
 
 -- What a capture brings: what is said, and where the next attempt opens.
 pub record Attempt : Type 0 where

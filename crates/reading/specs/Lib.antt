@@ -1,3 +1,1 @@
-pub mod Pattern
-pub mod Reading
 pub mod Captures

@@ -1,9 +1,5 @@
-// Reading: the pattern of a page, the edge reader, captures.
+// Reading captures: the first attempt from a place on, and where the next one opens.
 mod captures;
-mod pattern;
-mod reader;
 
 pub use captures::Outcome;
 pub use captures::read;
-pub use reader::Reader;
-pub use reader::Step;

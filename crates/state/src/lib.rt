@@ -1,7 +1,7 @@
 // What a device remembers, and what is left of it where it goes into Break or Off.
 ghost use mathlib.Core.Path.{_≡_};
 ghost use Rattle.state.specs.Memory.{noPage, noTalk, freshDevice, entered};
-use reading::Reader;
+use reader::Reader;
 use refusal::Answer;
 
 // The states of the negotiation.

@@ -4,8 +4,8 @@ use Prim.Native.Nat.{_-_}
 use native.Mathlib.Omega.{arith}
 use borrow.Author.Needs.{needs}
 use lib.ListN.{length}
-use Rattle.reading.specs.declared.reader.Reader.the-variants.{Dropping}
-use Rattle.reading.specs.Reading.{Brings}
+use Rattle.reader.specs.declared.reader.Reader.the-variants.{Dropping}
+use Rattle.reader.specs.Reading.{Brings}
 use Rattle.reading.specs.Captures.{isOpen}
 use Rattle.reading.proofs.CaptureLaws.{Seeking, found, seek-on, sought, drops, stays}
 use Rattle.reading.proofs.captures.opens_at.Statement.{statement}

@@ -1,0 +1,9 @@
+pub mod Polynomials
+pub mod Remainders
+pub mod BinaryNumbers
+pub mod WordBits
+pub mod Register
+pub mod CheckTheorem
+pub mod Agreement
+pub mod Multiples
+pub mod Strength

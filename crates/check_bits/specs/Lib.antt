@@ -1,0 +1,2 @@
+pub mod CheckBits
+pub mod Checked

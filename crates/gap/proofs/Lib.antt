@@ -1,0 +1,2 @@
+pub mod GapExamples
+pub mod Windows

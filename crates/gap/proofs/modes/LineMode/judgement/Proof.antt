@@ -1,0 +1,21 @@
+use borrow.Author.Needs.{needs}
+use borrow.Author.Tests.{le-leb, lt-leb}
+use Rattle.gap.specs.Gaps.{judgementOf}
+use Rattle.gap.proofs.modes.LineMode.judgement.Statement.{statement}
+use Rattle.gap.proofs.modes.LineMode.judgement.Tie as tie
+
+pub judgement-spec : {M : Type 1} → statement M
+unfolding judgementOf
+judgement-spec =
+    tie.close
+    (tie.spec
+    (λ c. search needs) (λ c. search needs) (λ c. search needs) (λ c κs. search needs)
+    (λ c. simp (c .if1 .taken, ← c .before .near .ensures))
+    (λ c. search needs) (λ c κs. search needs)
+    (λ c. simp (c .if2 .taken, ← c .before .near2 .ensures, c .before .before .if1 .left, ← c .before .before .before .near .ensures))
+    (λ c. search needs) (λ c κs. search needs)
+    (λ c. simp (c .if3 .taken, ← c .before .near3 .ensures, c .before .before .if2 .left, ← c .before .before .before .near2 .ensures, c .before .before .before .before .if1 .left, ← c .before .before .before .before .before .near .ensures))
+    (λ c. search needs) (λ c κs. search needs)
+    (λ c. simp (c .if4 .taken, ← c .before .near4 .ensures, c .before .before .if3 .left, ← c .before .before .before .near3 .ensures, c .before .before .before .before .if2 .left, ← c .before .before .before .before .before .near2 .ensures, c .before .before .before .before .before .before .if1 .left, ← c .before .before .before .before .before .before .before .near .ensures))
+    (λ c. simp (le-leb _ _ (c .if5 .taken), c .before .before .if4 .left, ← c .before .before .before .near4 .ensures, c .before .before .before .before .if3 .left, ← c .before .before .before .before .before .near3 .ensures, c .before .before .before .before .before .before .if2 .left, ← c .before .before .before .before .before .before .before .near2 .ensures, c .before .before .before .before .before .before .before .before .if1 .left, ← c .before .before .before .before .before .before .before .before .before .near .ensures))
+    (λ c. simp (lt-leb _ _ (c .if5 .left), c .before .before .if4 .left, ← c .before .before .before .near4 .ensures, c .before .before .before .before .if3 .left, ← c .before .before .before .before .before .near3 .ensures, c .before .before .before .before .before .before .if2 .left, ← c .before .before .before .before .before .before .before .near2 .ensures, c .before .before .before .before .before .before .before .before .if1 .left, ← c .before .before .before .before .before .before .before .before .before .near .ensures)))

@@ -1,0 +1,14 @@
+use borrow.Author.Needs.{needs}
+use mathlib.Core.Path.{sym, ap, _∙_}
+use Rattle.gap.specs.Gaps.{judged, saidOfGap}
+use Rattle.gap.proofs.modes.judge.Statement.{statement}
+use Rattle.gap.proofs.modes.judge.Tie as tie
+
+pub judge-spec : {M : Type 1} → statement M
+unfolding judged
+judge-spec =
+    tie.close
+    (tie.spec
+    (λ c κs. search needs) (λ c. search needs) (λ c κs. search needs) (λ c κs. search needs) (λ c. search needs)
+    (λ c. rw (sym (c .before .before .before .before .before .mode-of .ensures) ∙ c .before .before .before .m .given .1) (c .answer-of .ensures ∙ ap saidOfGap (c .before .judgement .ensures)))
+    (λ c. rw (sym (c .before .before .mode-of .ensures) ∙ c .enum-told .given .1)))

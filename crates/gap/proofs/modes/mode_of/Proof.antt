@@ -1,0 +1,16 @@
+use borrow.Author.Needs.{needs}
+use borrow.Author.Tests.{eq-eqb, ne-eqb}
+use Rattle.gap.specs.Modes.{modeOf}
+use Rattle.gap.proofs.modes.mode_of.Statement.{statement}
+use Rattle.gap.proofs.modes.mode_of.Tie as tie
+
+pub mode-of-spec : {M : Type 1} → statement M
+unfolding modeOf
+mode-of-spec =
+    tie.close
+    (tie.spec
+    (λ c κs. search needs)
+    (λ c. simp (c .hsm .ensures, eq-eqb _ _ (c .before .if1 .taken)))
+    (λ c κs. search needs)
+    (λ c. simp (c .lsm .ensures, eq-eqb _ _ (c .before .if2 .taken), ne-eqb _ _ (c .before .before .if1 .left)))
+    (λ c. simp (ne-eqb _ _ (c .if2 .left), ne-eqb _ _ (c .before .if1 .left))))

@@ -1,0 +1,4 @@
+pub mod Clock
+pub mod Modes
+pub mod Gaps
+pub mod Delimiters

@@ -1,8 +1,0 @@
-use borrow.Author.Needs.{needs}
-use Rattle.page.specs.CheckBits.{checkBits, checkList}
-use Rattle.page.proofs.division.check_bits.Statement.{statement}
-use Rattle.page.proofs.division.check_bits.Tie as tie
-
-pub check-bits-spec : {M : Type 1} → statement M
-unfolding checkBits checkList
-check-bits-spec = tie.close (tie.spec (λ c κs. search needs) (λ c. c .register-after .ensures))

@@ -1,0 +1,2 @@
+pub mod PatternLaws
+pub mod ClockShift

@@ -1,0 +1,23 @@
+use mathlib.Core.Path.{sym, ap, _∙_}
+use borrow.Author.Needs.{needs}
+use Rattle.gap.specs.Gaps.{judgementOf}
+use Rattle.reader.specs.Reading.{dropsOn}
+use Rattle.reader.proofs.reader.drop_on.Statement.{statement}
+use Rattle.reader.proofs.reader.drop_on.Tie as tie
+
+pub drop-on-spec : {M : Type 1} → statement M
+unfolding dropsOn
+drop-on-spec =
+    tie.close
+    (tie.spec
+    (λ c κs. search needs)
+    (λ c κs. search needs)
+    (λ c. search needs)
+    (λ c κs. search needs)
+    (λ c. search needs)
+    (λ c κs. search needs)
+    (λ c. search needs)
+    (λ c κs. search needs)
+    (λ c. rw (sym (c .before .before .before .before .judgement .ensures ∙ ap (judgementOf _) (c .before .before .before .before .before .time-between .ensures)) ∙ c .before .before .k .given .1) (c .dropped .ensures))
+    (λ c. rw (sym (c .before .before .before .judgement .ensures ∙ ap (judgementOf _) (c .before .before .before .before .time-between .ensures)) ∙ c .before .enum-told .given .1) (c .opened .ensures))
+    (λ c. rw (sym (c .before .before .before .judgement .ensures ∙ ap (judgementOf _) (c .before .before .before .before .time-between .ensures)) ∙ c .before .enum-told2 .given .1) (c .dropped2 .ensures)))

@@ -1,0 +1,7 @@
+// The edge reader, and the pattern of a page that it goes by.
+mod pattern;
+mod reader;
+
+pub use reader::Reader;
+pub use reader::Step;
+pub use reader::drop_on;
