@@ -17,15 +17,15 @@ use Rattle.resolve.specs.declared.roles.Role.the-variants.{Master, Slave
 use Rattle.resolve.specs.Rates.{rateOrder, commonOf, firstOf}
 use Rattle.resolve.specs.Roles.{roleOf}
 
--- "Wide": "word 2^48 or more".
+-- Row 13 of the refusals, Wide: "word 2^48 or more".
 abbrev pub isWide : ℕ → Bool
 isWide word = not (isWord word)
 
--- "Selector": S other than 1.
+-- Row 4, Selector; the negotiation says when: "S other than 1".
 abbrev pub hasOtherSelector : ℕ → Bool
 hasOtherSelector word = not (eqb (fieldOf field.Selector word) 1)
 
--- "Tie": T equal.
+-- Row 5, Tie; there too: "T equal to own".
 abbrev pub isTie : ℕ → ℕ → Bool
 isTie own partner = eqb (fieldOf field.Nonce own) (fieldOf field.Nonce partner)
 
@@ -36,7 +36,8 @@ settledBy (Ability n) Fault = Refused Roles
 settledBy (Ability n) Master = Settled n true
 settledBy (Ability n) Slave = Settled n false
 
--- What two words settle on, with the abilities of any ordered list.
+-- What two words settle on, with the abilities of any ordered list. "Wide, Selector of either, Tie" come first, each only where none before it
+-- holds.
 unfoldable pub resolutionOf : List ℕ → ℕ → ℕ → Answer
 resolutionOf order own partner =
     cond (isWide own || isWide partner) (Refused Wide)
@@ -44,6 +45,6 @@ resolutionOf order own partner =
     (cond (isTie own partner) (Refused Tie)
     (settledBy (firstOf (commonOf order own partner)) (roleOf own partner))))
 
--- The resolve call.
+-- The resolve call, with 01's order. It "keeps no state: 4, 5, 8, 9 are then bare answers".
 unfoldable pub resolveSays : ℕ → ℕ → Said
 resolveSays own partner = said (resolutionOf rateOrder own partner)

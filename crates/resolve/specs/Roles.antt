@@ -21,6 +21,7 @@ asksMaster word = hasBit (fieldOf Nonce word) 4
 abbrev pub isHigher : ℕ → ℕ → Bool
 isHigher own partner = ltb (fieldOf Nonce partner) (fieldOf Nonce own)
 
+-- One of the two, and "the other takes the rest".
 abbrev pub masterIf : Bool → Role
 masterIf true = Master
 masterIf false = Slave
@@ -32,12 +33,14 @@ bothForced true false = Master
 bothForced false true = Slave
 bothForced false false = Fault
 
--- The own side's role: by whether own is forced, whether partner is, and what each word has.
+-- The own side's role, by whether own is forced and whether partner is. In turn: "neither forced, higher T is master"; "one forced, its T4
+-- decides (1 master) and the other takes the rest", where that one is own, and where it is partner; "both forced, T4 decides".
 abbrev pub roleBy : Bool → Bool → ℕ → ℕ → Role
 roleBy false false own partner = masterIf (isHigher own partner)
 roleBy true false own partner = masterIf (asksMaster own)
 roleBy false true own partner = masterIf (not (asksMaster partner))
 roleBy true true own partner = bothForced (asksMaster own) (asksMaster partner)
 
+-- The own side's role on two words. Two equal T are never asked for a role: Tie is answered before.
 unfoldable pub roleOf : ℕ → ℕ → Role
 roleOf own partner = roleBy (isForced own) (isForced partner) own partner
