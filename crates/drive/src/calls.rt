@@ -2,6 +2,7 @@
 ghost use mathlib.Core.Path.{_≡_};
 ghost use Prim.Native.Nat.{_+_, _≤_};
 ghost use lib.ListN.{length};
+use crate::runs::run;
 use gap::LineMode;
 use reader::Reader;
 use refusal::Answer;
@@ -231,6 +232,9 @@ fn answer_one(
         if 2 <= size {
             return resolve(cells, from, answers, told);
         }
+    }
+    if operation == 6 {
+        return run(cells, from, size, answers, told);
     }
     if operation == 7 {
         if 1 <= size {

@@ -6,6 +6,7 @@ ghost use lib.ListN.{length};
 
 mod calls;
 mod cells;
+mod runs;
 
 use libc::STDIN_FILENO;
 use libc::STDOUT_FILENO;
