@@ -8,6 +8,22 @@ pub const GAP: u64 = refusal(1);
 pub const CUT: u64 = refusal(2);
 /// Refusal 3: the attempt came to its last position, and the check bits do not agree.
 pub const CHECK: u64 = refusal(3);
+/// Refusal 4: the page, or the word, has another selector than 1.
+pub const SELECTOR: u64 = refusal(4);
+/// Refusal 5: both sides have the same nonce.
+pub const TIE: u64 = refusal(5);
+/// Refusal 6: the page is not the one that is held.
+pub const CHANGED: u64 = refusal(6);
+/// Refusal 7: the page echoes another nonce than the own one.
+pub const ECHO: u64 = refusal(7);
+/// Refusal 8: there is no common rate.
+pub const NONE: u64 = refusal(8);
+/// Refusal 9: both sides are forced to the same role.
+pub const ROLES: u64 = refusal(9);
+/// Refusal 10: there is no such register.
+pub const REGISTER: u64 = refusal(10);
+/// Refusal 11: a page is told to be sent where none is out.
+pub const TURN: u64 = refusal(11);
 /// Refusal 12: the place is past the end, or the page does not fit from there on.
 pub const ROOM: u64 = refusal(12);
 /// Refusal 13: the word is 2^48 or more.
@@ -29,6 +45,21 @@ pub const fn good(word: u64) -> u64 {
     (0x80 << 56) | word
 }
 
+/// This page is ordered.
+pub const fn ordered(word: u64) -> u64 {
+    (0x81 << 56) | word
+}
+
+/// Settled on the rate of this ability, as master or slave.
+pub const fn settled(ability: u32, is_master: bool) -> u64 {
+    (0x82 << 56) | ((is_master as u64) << 8) | ability as u64
+}
+
+/// A register's value.
+pub const fn register(value: u16) -> u64 {
+    (0x83 << 56) | value as u64
+}
+
 /// A plain number: check bits, a count of readings, or the positions of a gap.
 pub const fn number(value: u64) -> u64 {
     (0x84 << 56) | value
@@ -42,6 +73,15 @@ mod tests {
     fn the_kind_is_in_the_top_byte() {
         assert_eq!([NOTHING, GAP, CUT, CHECK], [0, 1 << 56, 2 << 56, 3 << 56]);
         assert_eq!(good(0xABC), 0x8000_0000_0000_0ABC);
+        let of_a_device = [SELECTOR, TIE, CHANGED, ECHO, NONE, ROLES, REGISTER, TURN];
+        assert_eq!(
+            of_a_device,
+            [4, 5, 6, 7, 8, 9, 10, 11].map(|number| number << 56)
+        );
+        assert_eq!(ordered(0xABC), 0x8100_0000_0000_0ABC);
+        assert_eq!(settled(22, true), 0x8200_0000_0000_0116);
+        assert_eq!(settled(22, false), 0x8200_0000_0000_0016);
+        assert_eq!(register(0xFFFF), 0x8300_0000_0000_FFFF);
         assert_eq!(ROOM, 0x0C00_0000_0000_0000);
         assert_eq!(WIDE, 0x0D00_0000_0000_0000);
         assert_eq!(MODE, 0x0E00_0000_0000_0000);

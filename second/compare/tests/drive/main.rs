@@ -11,4 +11,6 @@ mod random_calls;
 mod random_captures;
 mod random_scripts;
 mod reading;
+mod resolving;
+mod runs;
 mod walk;

@@ -1,0 +1,121 @@
+//! Many random runs of a device, and what of it they met.
+
+use compare::agreement::assert_agreement;
+use compare::call::Call;
+use compare::event::{register, EDGE, LINK, READ, SENT, TICK, WRITE};
+use compare::history::{History, Step};
+use compare::random::Random;
+use compare::runs::random_run;
+use compare::tally::Tally;
+use reference::answer::{CHANGED, ECHO, TIE};
+use reference::device::registers::{CONTROL, ENABLE, RESET, RESTART};
+use reference::device::{State, STATES};
+use reference::resolve::RATES;
+
+/// So many runs of so many events.
+const SHORT_RUNS: (usize, usize) = (2000, 500);
+const LONG_RUNS: (usize, usize) = (60, 5000);
+
+const EVENT_NAMES: [&str; 7] = ["edge", "tick", "sent", "link", "read", "write", "unknown"];
+
+#[test]
+fn random_runs_agree() {
+    let mut random = Random::from_environment();
+    let mut met = Tally::of(all_that_must_be_met());
+    let mut calls = Vec::new();
+    for (runs, events) in [SHORT_RUNS, LONG_RUNS] {
+        for _ in 0..runs {
+            let history = random_run(&mut random, events);
+            count(&history, &mut met);
+            calls.push(Call::run(&history.events()));
+        }
+    }
+    met.assert_all_met();
+    assert_agreement(&calls);
+}
+
+fn count(history: &History, met: &mut Tally) {
+    for step in &history.steps {
+        let names = [
+            format!("state {:?}", step.after),
+            format!("{} in {:?}", event_name(step), step.before),
+            answer_name(step),
+            register_name(step),
+            format!("Break entered: {}", way_into_break(step)),
+        ];
+        names.iter().for_each(|name| met.meet(name));
+    }
+}
+
+fn all_that_must_be_met() -> Vec<String> {
+    let mut names = Vec::new();
+    for state in STATES {
+        names.push(format!("state {state:?}"));
+        names.extend(EVENT_NAMES.map(|event| format!("{event} in {state:?}")));
+        if state != State::Off {
+            names.push(format!("Break entered: restart in {state:?}"));
+        }
+    }
+    let ways = ["enable", "tie", "changed", "echo", "time-out", "link down"];
+    names.extend(ways.map(|way| format!("Break entered: {way}")));
+    names.extend((1..=11).map(|number| format!("refusal {number}")));
+    for (ability, is_master) in RATES
+        .iter()
+        .flat_map(|rate| [(rate.ability, 0), (rate.ability, 1)])
+    {
+        names.push(format!("settled on A{ability}, master {is_master}"));
+    }
+    names.extend(["a page read".to_string(), "a page ordered".to_string()]);
+    for number in (512..=519)
+        .map(|number| number.to_string())
+        .chain(["other".into()])
+    {
+        names.extend(["read", "write"].map(|access| format!("{access} of {number}")));
+    }
+    names
+}
+
+fn event_name(step: &Step) -> &'static str {
+    let kind = usize::try_from(step.event[0]).unwrap_or(usize::MAX);
+    EVENT_NAMES[kind.min(6)]
+}
+
+fn answer_name(step: &Step) -> String {
+    let value = step.answer & 0xFF;
+    match step.answer >> 56 {
+        0x80 => "a page read".to_string(),
+        0x81 => "a page ordered".to_string(),
+        0x82 => format!("settled on A{value}, master {}", step.answer >> 8 & 1),
+        number => format!("refusal {number}"),
+    }
+}
+
+fn register_name(step: &Step) -> String {
+    let number = match register(&step.event) {
+        Some(number) if (512..=519).contains(&number) => number.to_string(),
+        _ => "other".to_string(),
+    };
+    format!("{} of {number}", event_name(step))
+}
+
+/// How this step entered Break, or words that say that it did not.
+fn way_into_break(step: &Step) -> String {
+    let answers = [(TIE, "tie"), (CHANGED, "changed"), (ECHO, "echo")];
+    if let Some((_, way)) = answers.iter().find(|(answer, _)| step.answer == *answer) {
+        return way.to_string();
+    }
+    match (step.event[0], step.before, step.after) {
+        (WRITE, State::Off, State::Break) => "enable".to_string(),
+        (WRITE, before, State::Break) if is_restart(step) => format!("restart in {before:?}"),
+        (TICK, State::CheckLink, State::Break) => "time-out".to_string(),
+        (LINK, State::Up, State::Break) => "link down".to_string(),
+        (EDGE | TICK | SENT | LINK | READ | WRITE, _, _) => "not at all".to_string(),
+        _ => "not by an unknown kind".to_string(),
+    }
+}
+
+fn is_restart(step: &Step) -> bool {
+    let value = step.event[2] as u16;
+    let bits = value & (RESET | ENABLE | RESTART);
+    register(&step.event) == Some(CONTROL) && bits == ENABLE | RESTART
+}
