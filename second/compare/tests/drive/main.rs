@@ -6,6 +6,8 @@
 mod edges;
 mod every_gap;
 mod every_place;
+mod points_of_negotiation;
+mod points_of_registers;
 mod protocol;
 mod random_calls;
 mod random_captures;
@@ -13,4 +15,5 @@ mod random_scripts;
 mod reading;
 mod resolving;
 mod runs;
+mod script;
 mod walk;
