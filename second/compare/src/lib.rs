@@ -12,6 +12,7 @@ pub mod drive;
 pub mod event;
 pub mod generate;
 pub mod history;
+pub mod joined;
 pub mod kinds;
 pub mod listing;
 pub mod model;

@@ -6,6 +6,7 @@
 mod edges;
 mod every_gap;
 mod every_place;
+mod joined;
 mod points_of_negotiation;
 mod points_of_registers;
 mod protocol;

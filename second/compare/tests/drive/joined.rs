@@ -1,0 +1,203 @@
+//! Two devices joined by a wire settle, again and again. The simulation is the
+//! reference's; the events of each side then go to `drive`, which must answer the same.
+
+use compare::agreement::{assert_agreement, drives_answers};
+use compare::call::Call;
+use compare::history::Step;
+use compare::joined::{Joined, LEFT, RIGHT};
+use compare::random::Random;
+use compare::tally::Tally;
+use compare::words::all_rates;
+use reference::answer::register;
+use reference::device::registers::{COMPLETE, STATUS};
+use reference::device::State;
+use reference::resolve::{COMMON_INHIBIT, RATES};
+use reference::word::{ability, FORCED_ROLE, HIGHEST_NONCE_BIT};
+
+/// So many pairs for each way of swapping.
+const PAIRS: usize = 27;
+
+const MILLISECOND: u64 = 1_000_000;
+
+/// Within this time two modules that fit have settled, after a tie or two as well.
+const TIME_TO_SETTLE: u64 = 60 * MILLISECOND;
+
+/// All events of one side go into one call of `drive`.
+const MOST_EVENTS: usize = 20_000;
+
+/// What is swapped in the middle, and when.
+#[derive(Clone, Copy, Debug)]
+enum Swap {
+    /// A head when the link is up, so the other side sees it go down.
+    WhenUp,
+    /// A head before the link is up, so the other side's time runs out.
+    BeforeTheLink,
+    /// A head that has no rate, so the other side's time runs out.
+    HeadWithoutRate,
+}
+
+const SWAPS: [Swap; 3] = [Swap::WhenUp, Swap::BeforeTheLink, Swap::HeadWithoutRate];
+
+const FREE: u64 = 0;
+const MASTER: u64 = FORCED_ROLE.ones() | HIGHEST_NONCE_BIT.ones();
+const SLAVE: u64 = FORCED_ROLE.ones();
+
+/// What a module with any rates and any role advertises.
+fn any_module(random: &mut Random) -> u64 {
+    let rate = ability(random.pick(&RATES_BY_ABILITY)).ones();
+    let others = random.any_number() & random.any_number() & all_rates();
+    let others = random.pick(&[0, others]);
+    rate | others | random.pick(&[FREE, FREE, MASTER, SLAVE])
+}
+
+const RATES_BY_ABILITY: [u32; 9] = [0, 1, 2, 3, 4, 5, 6, 9, 22];
+
+/// What a module advertises that can settle with the other one.
+fn module_that_fits(random: &mut Random, other: u64) -> u64 {
+    let rates = other & all_rates();
+    let role = match other & MASTER {
+        MASTER => random.pick(&[FREE, SLAVE]),
+        SLAVE => random.pick(&[FREE, MASTER]),
+        _ => random.pick(&[FREE, MASTER, SLAVE]),
+    };
+    rates | role | random.pick(&[0, all_rates()])
+}
+
+/// Two modules settle, and again after one of them was swapped.
+fn settle_twice(random: &mut Random, swap: Swap) -> Joined {
+    let mut joined = Joined::new(Random::new(random.any_number()));
+    let left = any_module(random);
+    let fitting = module_that_fits(random, left);
+    let reached: fn(&Joined) -> bool = match swap {
+        Swap::WhenUp => |joined| joined.both_are(State::Up),
+        _ => |joined| joined.both_are(State::CheckLink),
+    };
+    let (right, swapped) = match swap {
+        Swap::HeadWithoutRate => (fitting & !all_rates(), RIGHT),
+        _ => (fitting, random.pick(&[LEFT, RIGHT])),
+    };
+    joined.enable_both(left, right);
+    assert!(joined.run_until(TIME_TO_SETTLE, reached), "{swap:?}");
+    let stays = [left, right][1 - swapped];
+    let newcomer = module_that_fits(random, stays);
+    // A newcomer alone on the line for long would make the runs too long.
+    let takes = match swap {
+        Swap::WhenUp => 0,
+        _ => inhibit(&joined, 1 - swapped) - random.below(12 * MILLISECOND),
+    };
+    joined.swap_head(takes, swapped, newcomer);
+    let most = takes + 20 * MILLISECOND + TIME_TO_SETTLE;
+    let both_parted = |joined: &Joined| !joined.sides.iter().any(is_in_a_link);
+    assert!(joined.run_until(most, both_parted), "{swap:?}");
+    let both_up = |joined: &Joined| joined.both_are(State::Up);
+    assert!(joined.run_until(most, both_up), "{swap:?}");
+    read_status(&mut joined);
+    joined
+}
+
+fn is_in_a_link(side: &compare::joined::Side) -> bool {
+    matches!(side.history.device.state(), State::CheckLink | State::Up)
+}
+
+/// How long this side waits for the link, with the rate that it has settled on.
+fn inhibit(joined: &Joined, side: usize) -> u64 {
+    let settled = joined.sides[side].settled;
+    let is_this = |ability: u32| settled.is_some_and(|answer| answer & 0xFF == ability.into());
+    let rate = RATES.iter().find(|rate| is_this(rate.ability));
+    rate.map_or(COMMON_INHIBIT, |rate| rate.inhibit).into()
+}
+
+/// Reads the status of both sides as the last events.
+fn read_status(joined: &mut Joined) {
+    joined.read(LEFT, STATUS);
+    joined.read(RIGHT, STATUS);
+    let have_read = |joined: &Joined| {
+        let is_read = |step: &Step| step.event[2] == STATUS;
+        let last = |side: usize| joined.sides[side].history.steps.last();
+        [LEFT, RIGHT].map(|side| last(side).is_some_and(is_read)) == [true, true]
+    };
+    assert!(joined.run_until(MILLISECOND, have_read));
+}
+
+#[test]
+fn two_modules_settle_and_settle_again_after_a_swap() {
+    let mut random = Random::from_environment();
+    let mut met = Tally::of(all_that_must_be_met());
+    let mut calls = Vec::new();
+    for pair in 0..PAIRS * SWAPS.len() {
+        let swap = SWAPS[pair % SWAPS.len()];
+        let joined = settle_twice(&mut random, swap);
+        met.meet(&format!("{swap:?}"));
+        for side in &joined.sides {
+            assert!(side.history.steps.len() <= MOST_EVENTS);
+            calls.push(Call::run(&side.history.events()));
+        }
+    }
+    assert_agreement(&calls);
+    for answers in drives_answers(&calls).chunks(2) {
+        assert_have_settled(&answers[LEFT], &answers[RIGHT], &mut met);
+    }
+    met.assert_all_met();
+}
+
+fn all_that_must_be_met() -> Vec<String> {
+    let mut names: Vec<String> = SWAPS.iter().map(|swap| format!("{swap:?}")).collect();
+    names.extend(RATES.iter().map(|rate| format!("rate {}", rate.ability)));
+    names.extend(["left is master", "right is master"].map(String::from));
+    names
+}
+
+/// Both sides say that they are up, on the same rate and in opposite roles.
+fn assert_have_settled(left: &[u64], right: &[u64], met: &mut Tally) {
+    for answers in [left, right] {
+        let status = answers[answers.len() - 1];
+        assert_eq!(status & register(COMPLETE), register(COMPLETE));
+    }
+    let [left, right] = [left, right].map(last_settling);
+    let is_master = |settled: u64| settled & 0x100 != 0;
+    assert_eq!(left & 0xFF, right & 0xFF, "the two rates");
+    assert_ne!(is_master(left), is_master(right), "the two roles");
+    met.meet(&format!("rate {}", left & 0xFF));
+    let master = if is_master(left) { "left" } else { "right" };
+    met.meet(&format!("{master} is master"));
+}
+
+fn last_settling(answers: &[u64]) -> u64 {
+    let settlings = answers.iter().filter(|answer| *answer >> 56 == 0x82);
+    *settlings.last().expect("the side has settled")
+}
+
+/// OPEN-POINTS 57: two devices enabled at the same reading, with ticks in step, order at
+/// the same time and never hear one another.
+#[test]
+fn two_devices_in_step_never_meet() {
+    let mut joined = Joined::with_ticks_in_step(Random::new(57));
+    joined.enable(0, LEFT, ability(2).ones());
+    joined.enable(0, RIGHT, ability(2).ones());
+    let someone_has_heard = |joined: &Joined| {
+        let is_past_ability = |side: &compare::joined::Side| {
+            !matches!(
+                side.history.device.state(),
+                State::Off | State::Break | State::Ability
+            )
+        };
+        joined.sides.iter().any(is_past_ability)
+    };
+    assert!(!joined.run_until(TIME_TO_SETTLE, someone_has_heard));
+    let calls = [LEFT, RIGHT].map(|side| Call::run(&joined.sides[side].history.events()));
+    assert_agreement(&calls);
+    for answers in drives_answers(&calls) {
+        let count = |kind: u64| {
+            answers
+                .iter()
+                .filter(|answer| **answer >> 56 == kind)
+                .count()
+        };
+        assert_eq!(
+            (count(0x80), count(0x82)),
+            (0, 0),
+            "pages heard and settlings"
+        );
+        assert!(count(0x81) > 50, "pages ordered");
+    }
+}
