@@ -14,8 +14,8 @@ use reference::device::State;
 use reference::line_mode::LSM;
 use reference::word::{ACK, ECHOED_NONCE, NONCE};
 
-/// A time left that is this long or longer is one that has run out already.
-const HALF_A_ROUND: u32 = 1 << 31;
+/// No timer's number is larger. A time left that is longer has run out already.
+const LONGEST_TIME: u32 = 3_060_000_000;
 
 /// A run in the making.
 pub struct Run<'a> {
@@ -55,12 +55,23 @@ impl Run<'_> {
         }
     }
 
+    /// A run that goes on where this one ended.
+    pub fn after(random: &mut Random, history: History, most_events: usize) -> Run<'_> {
+        let last = history.steps.last().map_or(0, |step| step.event[1]);
+        Run {
+            history,
+            now: last as u32,
+            ..Run::new(random, most_events)
+        }
+    }
+
     pub fn state(&self) -> State {
         self.history.device.state()
     }
 
-    pub fn now(&self) -> u32 {
-        self.now
+    /// The nonce of the page that the device sends in this round.
+    pub fn own_nonce(&self) -> u64 {
+        NONCE.of(self.history.device.own_page())
     }
 
     /// Gives the device an event now.
@@ -154,7 +165,7 @@ impl Run<'_> {
         self.write(CONTROL, ENABLE | restart);
     }
 
-    fn send(&mut self) {
+    pub fn send(&mut self) {
         match self.random.below(4) {
             0 => self.pass_up_to(400_000),
             1 => self.stray_edges(),
@@ -168,8 +179,7 @@ impl Run<'_> {
             return self.tick_when_due();
         }
         let word = self.right_page();
-        let gaps = page_gaps(self.random, &LSM, word);
-        self.hear(&gaps);
+        self.hear_page(word);
     }
 
     fn report_link(&mut self, is_up: bool) {
@@ -181,9 +191,9 @@ impl Run<'_> {
     }
 
     /// A tick at the reading at which the time has run out, or some time later.
-    fn tick_when_due(&mut self) {
+    pub fn tick_when_due(&mut self) {
         let left = self.time_left();
-        if left < HALF_A_ROUND {
+        if left <= LONGEST_TIME {
             self.pass(left);
         }
         if self.random.once_in(4) {
@@ -196,7 +206,7 @@ impl Run<'_> {
     /// run out, or only one of them.
     fn tick_near_the_time(&mut self) {
         let left = self.time_left();
-        if left == 0 || left >= HALF_A_ROUND {
+        if left == 0 || left > LONGEST_TIME {
             return self.tick();
         }
         let before = self.random.below(3.min(left.into())) as u32;
@@ -220,7 +230,7 @@ impl Run<'_> {
 
     /// Edges with these gaps, after a gap that is mostly quiet. A tick or a read may come
     /// between two of them.
-    pub fn hear(&mut self, gaps: &[u32]) {
+    fn hear(&mut self, gaps: &[u32]) {
         let before = match self.random.below(12) {
             0 => self.random.below(3441) as u32,
             1 | 2 => LSM.quiet_limit,
@@ -250,7 +260,7 @@ impl Run<'_> {
     }
 
     /// The page that the partner would send in this state.
-    fn right_page(&mut self) -> u64 {
+    pub fn right_page(&mut self) -> u64 {
         let own = self.history.device.own_page();
         let held = self.history.device.held_page();
         match self.state() {
@@ -272,6 +282,11 @@ impl Run<'_> {
         }
         let own = self.history.device.own_page();
         let word = words::wrong_page(self.random, right, own);
+        self.hear_page(word);
+    }
+
+    /// A page with each gap somewhere in its window.
+    pub fn hear_page(&mut self, word: u64) {
         let gaps = page_gaps(self.random, &LSM, word);
         self.hear(&gaps);
     }

@@ -16,5 +16,7 @@ mod random_scripts;
 mod reading;
 mod resolving;
 mod runs;
+mod same_after_break;
 mod script;
+mod settling_log;
 mod walk;
