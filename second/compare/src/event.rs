@@ -33,12 +33,10 @@ pub fn write(now: u32, register: u64, value: u16) -> EventCells {
     [WRITE, now.into(), register << 16 | u64::from(value)]
 }
 
-/// The three writes that make a device advertise this word.
-pub fn advertise(now: u32, word: u64) -> [EventCells; 3] {
-    [514, 515, 516].map(|register| {
-        let lowest = 16 * (register - 514);
-        write(now, register, (word >> lowest) as u16)
-    })
+/// The registers 514 to 516, each with the value that makes a device advertise this word.
+pub fn advertising(word: u64) -> [(u64, u16); 3] {
+    let part = |lowest: u32| (word >> lowest) as u16;
+    [(514, part(0)), (515, part(16)), (516, part(32))]
 }
 
 /// The register of a read or a write.

@@ -106,8 +106,7 @@ impl Joined {
 
     /// Lets a side advertise a word and enables it, so much later.
     pub fn enable(&mut self, later: u64, side: usize, advertised: u64) {
-        for (part, register) in [514, 515, 516].into_iter().enumerate() {
-            let value = (advertised >> (16 * part)) as u16;
+        for (register, value) in event::advertising(advertised) {
             self.plan(later, side, Happening::Write { register, value });
         }
         self.write_control(later, side, ENABLE);

@@ -5,11 +5,11 @@
 //! is wrong in this state, late, early or senseless.
 
 use crate::captures::{damaged_page_gaps, page_gaps};
-use crate::event::{EventCells, EDGE, LINK, READ, SENT, TICK, WRITE};
+use crate::event::{self, EventCells, EDGE, LINK, READ, SENT, TICK, WRITE};
 use crate::history::History;
 use crate::random::Random;
 use crate::words;
-use reference::device::registers::{ADVERTISED, CONTROL, ENABLE, RESET, RESTART, STATUS};
+use reference::device::registers::{CONTROL, ENABLE, RESET, RESTART, STATUS};
 use reference::device::State;
 use reference::line_mode::LSM;
 use reference::word::{ACK, ECHOED_NONCE, NONCE};
@@ -113,8 +113,8 @@ impl Run<'_> {
     }
 
     pub fn advertise(&mut self, word: u64) {
-        for (part, register) in ADVERTISED.into_iter().enumerate() {
-            self.write(register, (word >> (16 * part)) as u16);
+        for (register, value) in event::advertising(word) {
+            self.write(register, value);
         }
     }
 
@@ -203,7 +203,7 @@ impl Run<'_> {
     }
 
     /// Ticks just before, exactly at and just after the reading at which the time has
-    /// run out, or only one of them.
+    /// run out, or only some of them.
     fn tick_near_the_time(&mut self) {
         let left = self.time_left();
         if left == 0 || left > LONGEST_TIME {
@@ -211,9 +211,10 @@ impl Run<'_> {
         }
         let before = self.random.below(3.min(left.into())) as u32;
         self.pass(left - before);
+        let between = 1 + self.random.below(2) as u32;
         for _ in 0..=self.random.below(3) {
             self.tick();
-            self.pass(1);
+            self.pass(between);
         }
     }
 

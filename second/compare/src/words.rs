@@ -13,9 +13,15 @@ pub fn all_rates() -> u64 {
     RATES.iter().map(|rate| ability(rate.ability).ones()).sum()
 }
 
+/// The ability of any one rate.
+pub fn one_rate(random: &mut Random) -> u64 {
+    let rate = &RATES[random.below(RATES.len() as u64) as usize];
+    ability(rate.ability).ones()
+}
+
 /// Some of the rates, few of them most times. Seldom none.
 fn some_rates(random: &mut Random) -> u64 {
-    let one = ability(RATES[random.below(9) as usize].ability).ones();
+    let one = one_rate(random);
     match random.below(8) {
         0 => all_rates(),
         1 => all_rates() & random.any_number(),
@@ -73,8 +79,8 @@ pub fn wrong_page(random: &mut Random, right: u64, own: u64) -> u64 {
 
 /// Two words to resolve, of which many settle and many do not.
 pub fn two_words(random: &mut Random) -> (u64, u64) {
-    let own = any_words_page(random);
-    let mut partner = any_words_page(random);
+    let own = page_with_any_fields(random);
+    let mut partner = page_with_any_fields(random);
     if random.once_in(2) {
         partner |= own & all_rates();
     }
@@ -87,7 +93,7 @@ pub fn two_words(random: &mut Random) -> (u64, u64) {
     )
 }
 
-fn any_words_page(random: &mut Random) -> u64 {
+fn page_with_any_fields(random: &mut Random) -> u64 {
     let fields = random.any_number() & 0x1F_FFE0;
     some_rates(random) | fields | OUR_SELECTOR
 }

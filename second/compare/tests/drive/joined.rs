@@ -4,10 +4,10 @@
 use compare::agreement::{assert_agreement, drives_answers};
 use compare::call::Call;
 use compare::history::Step;
-use compare::joined::{Joined, LEFT, RIGHT};
+use compare::joined::{Joined, Side, LEFT, RIGHT};
 use compare::random::Random;
 use compare::tally::Tally;
-use compare::words::all_rates;
+use compare::words::{all_rates, one_rate};
 use reference::answer::register;
 use reference::device::registers::{COMPLETE, STATUS};
 use reference::device::State;
@@ -44,13 +44,11 @@ const SLAVE: u64 = FORCED_ROLE.ones();
 
 /// What a module with any rates and any role advertises.
 fn any_module(random: &mut Random) -> u64 {
-    let rate = ability(random.pick(&RATES_BY_ABILITY)).ones();
+    let rate = one_rate(random);
     let others = random.any_number() & random.any_number() & all_rates();
     let others = random.pick(&[0, others]);
     rate | others | random.pick(&[FREE, FREE, MASTER, SLAVE])
 }
-
-const RATES_BY_ABILITY: [u32; 9] = [0, 1, 2, 3, 4, 5, 6, 9, 22];
 
 /// What a module advertises that can settle with the other one.
 fn module_that_fits(random: &mut Random, other: u64) -> u64 {
@@ -95,7 +93,7 @@ fn settle_twice(random: &mut Random, swap: Swap) -> Joined {
     joined
 }
 
-fn is_in_a_link(side: &compare::joined::Side) -> bool {
+fn is_in_a_link(side: &Side) -> bool {
     matches!(side.history.device.state(), State::CheckLink | State::Up)
 }
 
@@ -175,7 +173,7 @@ fn two_devices_in_step_never_meet() {
     joined.enable(0, LEFT, ability(2).ones());
     joined.enable(0, RIGHT, ability(2).ones());
     let someone_has_heard = |joined: &Joined| {
-        let is_past_ability = |side: &compare::joined::Side| {
+        let is_past_ability = |side: &Side| {
             !matches!(
                 side.history.device.state(),
                 State::Off | State::Break | State::Ability

@@ -2,9 +2,9 @@
 //! point, the expected answers written out from document 01.
 
 use crate::script::{
-    hear_and_send, in_ability, in_ack, in_break, in_check_link, in_complete, in_every_state, in_up,
-    send_three_pages, settle_with, Script, CONTROL, ENABLE, OWN, OWN_ACK, PAGE_TIME, PARTNER,
-    PARTNER_ACK, RESTART, STATUS,
+    assert_all_hold, hear_and_send, in_ability, in_ack, in_break, in_check_link, in_complete,
+    in_every_state, in_up, send_three_pages, settle_from, settle_with, Script, CONTROL, ENABLE,
+    OWN, OWN_ACK, PAGE_TIME, PARTNER, PARTNER_ACK, RESTART, STATUS,
 };
 use reference::answer::{
     good, ordered, settled, CHANGED, CHECK, CUT, ECHO, GAP, NONE, NOTHING, ROLES, SELECTOR, TIE,
@@ -321,11 +321,10 @@ fn point_40_pages_sent_before_complete_do_not_count() {
     script.assert_holds();
 }
 
-#[test]
-fn point_41_the_third_sent_settles_and_starts_the_timer() {
-    let mut script = in_check_link();
-    script.after(97_499_999).tick(NOTHING);
-    // Still in Check-link: the link can come up.
+/// The device has just gone to Check-link with a rate: one nanosecond before its time is
+/// out the link can still come up, and then no more.
+fn assert_waits_for_the_link(mut script: Script, inhibit: u32) {
+    script.after(inhibit - 1).tick(NOTHING);
     let mut still = script.clone();
     still.link(true);
     still.read(STATUS, 0x0068);
@@ -334,6 +333,11 @@ fn point_41_the_third_sent_settles_and_starts_the_timer() {
     script.link(true);
     script.read(STATUS, 0x0048);
     script.assert_holds();
+}
+
+#[test]
+fn point_41_the_third_sent_settles_and_starts_the_timer() {
+    assert_waits_for_the_link(in_check_link(), 97_500_000);
 }
 
 #[test]
@@ -393,6 +397,20 @@ fn point_47_timers_are_modulo_2_to_32_and_looked_at_on_ticks_only() {
 }
 
 #[test]
+fn point_47_every_time_may_roll_over_with_the_clock() {
+    // A whole round takes less than ten milliseconds; the clock rolls over somewhere in it.
+    let scripts = (0..=40).map(|part| {
+        let start = 0_u32.wrapping_sub(part * 250_000);
+        let mut script = settle_from(start, 0x80_0000, PARTNER, settled(2, false));
+        script.after(97_499_999).tick(NOTHING);
+        script.link(true);
+        script.read(STATUS, 0x0068);
+        script
+    });
+    assert_all_hold(scripts.collect());
+}
+
+#[test]
 fn point_48_at_its_number_a_timer_is_out() {
     let mut script = in_break();
     script.at(7_999_999).tick_with(5, NOTHING);
@@ -425,16 +443,8 @@ fn point_49_the_inhibit_time_is_that_of_the_rate() {
     ];
     for (ability, inhibit) in all {
         let word: u64 = 1 << (21 + ability);
-        let mut script = settle_with(word, word | 0x010001, settled(ability, true));
-        script.after(inhibit - 1).tick(NOTHING);
-        let mut still = script.clone();
-        still.link(true);
-        still.read(STATUS, 0x0068);
-        still.assert_holds();
-        script.after(1).tick(NOTHING);
-        script.link(true);
-        script.read(STATUS, 0x0048);
-        script.assert_holds();
+        let script = settle_with(word, word | 0x010001, settled(ability, true));
+        assert_waits_for_the_link(script, inhibit);
     }
 }
 

@@ -35,12 +35,17 @@ fn random_runs_agree() {
 }
 
 fn count(history: &History, met: &mut Tally) {
+    for pair in history.steps.windows(2) {
+        met.meet(clock_name(&pair[0], &pair[1]));
+    }
     for step in &history.steps {
         let names = [
             format!("state {:?}", step.after),
             format!("{} in {:?}", event_name(step), step.before),
             answer_name(step),
             register_name(step),
+            timer_name(step),
+            cells_name(step).to_string(),
             format!("Break entered: {}", way_into_break(step)),
         ];
         names.iter().for_each(|name| met.meet(name));
@@ -56,6 +61,10 @@ fn all_that_must_be_met() -> Vec<String> {
             names.push(format!("Break entered: restart in {state:?}"));
         }
     }
+    for state in STATES_WITH_A_TIME {
+        names.extend(TICKS_NEAR_THE_TIME.map(|(_, when)| format!("tick {when} in {state:?}")));
+    }
+    names.extend(CLOCK_AND_CELLS.map(String::from));
     let ways = ["enable", "tie", "changed", "echo", "time-out", "link down"];
     names.extend(ways.map(|way| format!("Break entered: {way}")));
     names.extend((1..=11).map(|number| format!("refusal {number}")));
@@ -73,6 +82,63 @@ fn all_that_must_be_met() -> Vec<String> {
         names.extend(["read", "write"].map(|access| format!("{access} of {number}")));
     }
     names
+}
+
+const STATES_WITH_A_TIME: [State; 5] = [
+    State::Break,
+    State::Ability,
+    State::Ack,
+    State::Complete,
+    State::CheckLink,
+];
+
+/// How long after the time has run out a tick comes, modulo 2^32.
+const TICKS_NEAR_THE_TIME: [(u32, &str); 3] = [
+    (u32::MAX, "1 ns before its time"),
+    (0, "exactly at its time"),
+    (1, "1 ns after its time"),
+];
+
+const CLOCK_AND_CELLS: [&str; 5] = [
+    "clock rolls over",
+    "clock goes back",
+    "reading cell above 2^32",
+    "link report with an argument above 2^32",
+    "draw of 32 or more that is taken",
+];
+
+/// Less than this is no round of the clock, but a step back.
+const SMALL_STEP_BACK: u32 = 1 << 20;
+
+fn clock_name(earlier: &Step, later: &Step) -> &'static str {
+    let [earlier, later] = [earlier, later].map(|step| step.event[1] as u32);
+    match earlier.checked_sub(later) {
+        None | Some(0) => "clock goes on",
+        Some(1..SMALL_STEP_BACK) => CLOCK_AND_CELLS[1],
+        Some(_) if later.wrapping_sub(earlier) < 1 << 24 => CLOCK_AND_CELLS[0],
+        Some(_) => "clock jumps",
+    }
+}
+
+fn cells_name(step: &Step) -> &'static str {
+    let [kind, reading, argument] = step.event;
+    let has_left_break = (step.before, step.after) == (State::Break, State::Ability);
+    match kind {
+        LINK if argument >> 32 != 0 => CLOCK_AND_CELLS[3],
+        TICK if has_left_break && argument >= 32 => CLOCK_AND_CELLS[4],
+        _ if reading >> 32 != 0 => CLOCK_AND_CELLS[2],
+        _ => "small cells",
+    }
+}
+
+fn timer_name(step: &Step) -> String {
+    let late = match (step.event[0], step.runs_out_at) {
+        (TICK, Some(reading)) => (step.event[1] as u32).wrapping_sub(reading),
+        _ => return "no timer".to_string(),
+    };
+    let near = TICKS_NEAR_THE_TIME.iter().find(|(time, _)| *time == late);
+    let when = near.map_or("at another time", |(_, when)| when);
+    format!("tick {when} in {:?}", step.before)
 }
 
 fn event_name(step: &Step) -> &'static str {

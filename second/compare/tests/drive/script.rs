@@ -36,7 +36,7 @@ pub struct Script {
 impl Script {
     /// Fails the test if `drive` or the model answers one event otherwise.
     pub fn assert_holds(self) {
-        assert_answer_cells(&[(Call::run(&self.events), self.expected)]);
+        assert_all_hold(vec![self]);
     }
 
     pub fn now(&self) -> u32 {
@@ -97,8 +97,8 @@ impl Script {
     }
 
     pub fn advertise(&mut self, word: u64) {
-        for event in event::advertise(self.now, word) {
-            self.give(event, NOTHING);
+        for (register, value) in event::advertising(word) {
+            self.write(register, value);
         }
     }
 
@@ -130,6 +130,13 @@ impl Script {
     pub fn leave_break(&mut self, draw: u64) {
         self.after(8_000_000).tick_with(draw, NOTHING);
     }
+}
+
+/// Fails the test if one of the scripts does not hold.
+pub fn assert_all_hold(scripts: Vec<Script>) {
+    let with_call = |script: Script| (Call::run(&script.events), script.expected);
+    let calls: Vec<(Call, Vec<u64>)> = scripts.into_iter().map(with_call).collect();
+    assert_answer_cells(&calls);
 }
 
 /// Just enabled, at reading 0.
@@ -195,11 +202,16 @@ pub fn in_every_state() -> [(&'static str, Script); 7] {
     ]
 }
 
-/// A whole round from Off or Break to Check-link with these two words: what the device
-/// advertises, of which only abilities and pause may be ones, and the partner's page.
+/// A whole round from Off to Check-link with these two words: what the device advertises,
+/// of which only abilities and pause may be ones, and the partner's page.
 pub fn settle_with(advertised: u64, partner: u64, answer: u64) -> Script {
+    settle_from(0, advertised, partner, answer)
+}
+
+/// The same, starting at this reading.
+pub fn settle_from(start: u32, advertised: u64, partner: u64, answer: u64) -> Script {
     let mut script = Script::default();
-    script.advertise(advertised);
+    script.at(start).advertise(advertised);
     script.write(CONTROL, ENABLE);
     hear_and_send(&mut script, advertised | 0x050001, partner, answer);
     script
