@@ -9,6 +9,7 @@ use reference::device::{Device, State};
 pub struct Step {
     pub event: EventCells,
     pub before: State,
+    pub page_was_out: bool,
     /// When the time that mattered before the event was to run out, if there was one.
     pub runs_out_at: Option<u32>,
     pub answer: u64,
@@ -24,11 +25,13 @@ pub struct History {
 impl History {
     pub fn give(&mut self, event: EventCells) -> u64 {
         let before = self.device.state();
+        let page_was_out = self.device.page_is_out();
         let runs_out_at = self.device.time_runs_out_at();
         let answer = calls::step(&mut self.device, event);
         self.steps.push(Step {
             event,
             before,
+            page_was_out,
             runs_out_at,
             answer,
             after: self.device.state(),

@@ -1,8 +1,9 @@
 //! Compares the programs `drive` and `listing` with the reference, through a pipe.
 //!
-//! A test makes calls (`call`, `generate`, `captures`), sends them to `drive` in batches
-//! (`drive`, `program`, `process`) and holds the output against what the reference gives
-//! (`model`, `agreement`). `listing` does the same for the program of that name.
+//! A test makes calls (`call`, `generate`, `captures`, `words`, `runs`, `joined`), sends
+//! them to `drive` in batches (`drive`, `program`, `process`) and holds the output against
+//! what the reference gives (`model`, `agreement`). `listing` does the same for the program
+//! of that name.
 
 pub mod agreement;
 pub mod call;

@@ -161,8 +161,11 @@ fn assert_have_settled(left: &[u64], right: &[u64], met: &mut Tally) {
 }
 
 fn last_settling(answers: &[u64]) -> u64 {
-    let settlings = answers.iter().filter(|answer| *answer >> 56 == 0x82);
-    *settlings.last().expect("the side has settled")
+    let is_settling = |answer: &&u64| *answer >> 56 == 0x82;
+    *answers
+        .iter()
+        .rfind(is_settling)
+        .expect("the side has settled")
 }
 
 /// OPEN-POINTS 57: two devices enabled at the same reading, with ticks in step, order at

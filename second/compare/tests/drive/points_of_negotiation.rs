@@ -32,6 +32,7 @@ fn page_with_a_wrong_check(script: &mut Script, word: u64) {
 
 #[test]
 fn point_21_gap_cut_and_check_come_out_of_the_device() {
+    let mut scripts = Vec::new();
     for mut script in [in_ability(), in_ack(), in_complete()] {
         script.after(5000).edge(NOTHING);
         script.after(100).edge(GAP);
@@ -42,22 +43,27 @@ fn point_21_gap_cut_and_check_come_out_of_the_device() {
         script.after(100).edge(GAP);
         script.after(5000);
         page_with_a_wrong_check(&mut script, 0);
-        script.assert_holds();
+        scripts.push(script);
     }
+    assert_all_hold(scripts);
 }
 
 #[test]
 fn point_22_an_ignored_edge_does_not_touch_the_reader() {
-    let mut script = in_ack();
-    script.after(33_000).tick(ordered(OWN_ACK));
-    script.after(20_000).edge(NOTHING);
-    script.after(800).edge(NOTHING);
-    script.after(200).sent(NOTHING);
-    // 1000 ns after an ignored edge, but quiet since the last edge that was not ignored:
-    // it opens an attempt, which the next edge ends.
-    script.after(800).edge(NOTHING);
-    script.after(100).edge(GAP);
-    script.assert_holds();
+    // So long after the last ignored edge comes the first that is not: a gap of one
+    // position, an unfit one, and none. Each is quiet since the last edge before the
+    // order, so that edge opens an attempt, which the next one ends.
+    let scripts = [1000, 300, 0].map(|gap| {
+        let mut script = in_ack();
+        script.after(33_000).tick(ordered(OWN_ACK));
+        script.after(20_000).edge(NOTHING);
+        script.after(800).edge(NOTHING);
+        script.sent(NOTHING);
+        script.after(gap).edge(NOTHING);
+        script.after(100).edge(GAP);
+        script
+    });
+    assert_all_hold(scripts.to_vec());
 }
 
 #[test]
@@ -213,6 +219,7 @@ fn point_33_a_first_page_with_ack_is_only_held() {
 
 #[test]
 fn point_34_only_ack_and_the_echo_may_differ_from_the_held_page() {
+    let mut scripts = Vec::new();
     for bit in 0..48 {
         let is_of_the_echo = (5..=9).contains(&bit);
         let mut script = in_ack();
@@ -231,8 +238,9 @@ fn point_34_only_ack_and_the_echo_may_differ_from_the_held_page() {
             NOTHING
         });
         script.sent(answer_to_sent);
-        script.assert_holds();
+        scripts.push(script);
     }
+    assert_all_hold(scripts);
 }
 
 #[test]
@@ -294,6 +302,7 @@ fn point_38_remote_fault_stays_until_it_is_read() {
 #[test]
 fn point_39_complete_looks_at_no_page() {
     // Another selector, the own nonce, no Ack, other abilities.
+    let mut scripts = Vec::new();
     for word in [0, OWN, PARTNER, 0x1234_5678_9ABC, 0xFFFF_FFFF_FFFF] {
         let mut script = in_complete();
         script.after(10_000).page(word, good(word));
@@ -305,8 +314,9 @@ fn point_39_complete_looks_at_no_page() {
         script
             .after(350_000)
             .own_page_goes_out(OWN_ACK, settled(2, false));
-        script.assert_holds();
+        scripts.push(script);
     }
+    assert_all_hold(scripts);
 }
 
 #[test]
@@ -360,11 +370,13 @@ fn point_42_refusals_of_resolving_lead_to_check_link_without_a_rate() {
 
 #[test]
 fn point_43_sent_with_no_page_out_is_turn_in_every_state() {
+    let mut scripts = Vec::new();
     for (_, mut script) in in_every_state() {
         script.sent(TURN);
         script.after(100).sent(TURN);
-        script.assert_holds();
+        scripts.push(script);
     }
+    assert_all_hold(scripts);
 }
 
 #[test]
@@ -490,6 +502,22 @@ fn point_52_heard_is_marked_at_the_last_edge_and_waiting_at_sent() {
 }
 
 #[test]
+fn point_52_a_page_without_ack_marks_heard_in_ack() {
+    let mut script = in_ack();
+    script.after(20_000).page(PARTNER, good(PARTNER));
+    script.after(32_999).tick(NOTHING);
+    script.after(1).tick(ordered(OWN_ACK));
+    script.assert_holds();
+    // Also where the wait has begun in between.
+    let mut script = in_ack();
+    script.after(33_000).own_page_goes_out(OWN_ACK, NOTHING);
+    script.after(20_000).page(PARTNER, good(PARTNER));
+    script.after(32_999).tick(NOTHING);
+    script.after(1).tick(ordered(OWN_ACK));
+    script.assert_holds();
+}
+
+#[test]
 fn point_53_heard_replaces_waiting() {
     let mut script = in_ability();
     script
@@ -538,6 +566,7 @@ fn point_56_an_edge_that_enters_break_starts_its_timer() {
         (in_ack(), PARTNER ^ 0x8000, CHANGED),
         (in_ack(), PARTNER_ACK ^ 0x20, ECHO),
     ];
+    let mut scripts = Vec::new();
     for (mut script, word, refusal) in refused {
         script.after(10_000).page(word, refusal);
         let entered = script.now();
@@ -547,8 +576,9 @@ fn point_56_an_edge_that_enters_break_starts_its_timer() {
         script.after(1).tick_with(5, NOTHING);
         // The reader is fresh: no quiet gap is asked.
         script.after(1).page(PARTNER, good(PARTNER));
-        script.assert_holds();
+        scripts.push(script);
     }
+    assert_all_hold(scripts);
 }
 
 #[test]
@@ -618,9 +648,12 @@ fn link_down_in_up_starts_the_break_timer() {
     script.after(5_000_000).link(false);
     let entered = script.now();
     script.link(true);
-    script.at(entered + 7_999_999).tick_with(5, NOTHING);
-    script.sent(TURN);
+    script.at(entered + 7_999_999).tick_with(7, NOTHING);
+    script.edge(NOTHING);
+    script.edge(NOTHING);
     script.at(entered + 8_000_000).tick_with(5, NOTHING);
+    script.edge(NOTHING);
+    script.edge(GAP);
     script.after(350_000).tick(ordered(OWN));
     script.assert_holds();
 }

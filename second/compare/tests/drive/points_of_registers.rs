@@ -2,8 +2,8 @@
 //! answers written out from document 01.
 
 use crate::script::{
-    in_ability, in_break, in_check_link, in_complete, in_every_state, in_up, Script, CONTROL,
-    ENABLE, OWN, PARTNER, PARTNER_ACK, RESTART, STATUS,
+    assert_all_hold, in_ability, in_break, in_check_link, in_complete, in_every_state, in_up,
+    Script, CONTROL, ENABLE, OWN, PARTNER, PARTNER_ACK, RESTART, STATUS,
 };
 use compare::event;
 use reference::answer::{good, ordered, NOTHING, REGISTER, TURN};
@@ -51,6 +51,7 @@ fn point_59_a_restart_in_break_restarts_the_timer() {
 
 #[test]
 fn point_60_restart_without_enable_goes_off() {
+    let mut scripts = Vec::new();
     for (name, mut script) in in_every_state() {
         let is_on = name != "Off";
         script.read(CONTROL, if is_on { 0x1000 } else { 0 });
@@ -61,12 +62,14 @@ fn point_60_restart_without_enable_goes_off() {
         script.after(8_000_000).tick(NOTHING);
         script.after(350_000).tick(NOTHING);
         script.after(10_000).page(PARTNER, NOTHING);
-        script.assert_holds();
+        scripts.push(script);
     }
+    assert_all_hold(scripts);
 }
 
 #[test]
 fn point_61_bit_15_makes_the_device_fresh() {
+    let mut scripts = Vec::new();
     for value in [RESET, 0xFFFF, RESET | ENABLE, RESET | RESTART] {
         for (_, mut script) in in_every_state() {
             script.advertise(0xFFFF_FFFF_FFFF);
@@ -79,9 +82,10 @@ fn point_61_bit_15_makes_the_device_fresh() {
             script.sent(TURN);
             script.after(8_000_000).tick(NOTHING);
             script.after(350_000).tick(NOTHING);
-            script.assert_holds();
+            scripts.push(script);
         }
     }
+    assert_all_hold(scripts);
 }
 
 #[test]
@@ -117,6 +121,7 @@ fn point_63_the_advertisement_outlives_break_and_off() {
 
 #[test]
 fn point_64_the_advertisement_reads_as_written() {
+    let mut scripts = Vec::new();
     for (_, mut script) in in_every_state() {
         for number in 514..=516 {
             for value in [0xFFFF, 0x0000, 0x5AA5] {
@@ -124,17 +129,20 @@ fn point_64_the_advertisement_reads_as_written() {
                 script.read(number, value);
             }
         }
-        script.assert_holds();
+        scripts.push(script);
     }
+    assert_all_hold(scripts);
 }
 
 #[test]
 fn point_65_the_status_in_every_state() {
     let expected = [8, 8, 8, 8, 0x48, 0x48, 0x68];
+    let mut scripts = Vec::new();
     for ((_, mut script), first) in in_every_state().into_iter().zip(expected) {
         script.read(STATUS, first);
-        script.assert_holds();
+        scripts.push(script);
     }
+    assert_all_hold(scripts);
     // A read in Off clears, too.
     let mut script = in_complete();
     script.write(CONTROL, 0);
@@ -195,6 +203,7 @@ fn point_68_writes_answer_nothing_and_read_only_registers_stay() {
 #[test]
 fn point_69_other_registers_are_refused_in_every_state() {
     let others = [0, 1, 511, 520, 0xFFFF, 0x10200, (1 << 32) + 512];
+    let mut scripts = Vec::new();
     for (_, mut script) in in_every_state() {
         for number in others {
             script.give(event::read(script.now(), number), REGISTER);
@@ -205,6 +214,7 @@ fn point_69_other_registers_are_refused_in_every_state() {
         script.give([event::READ, 0, (1 << 63) + 513], REGISTER);
         let advertised = if script.has_written(515) { 0x80 } else { 0 };
         script.read(515, advertised);
-        script.assert_holds();
+        scripts.push(script);
     }
+    assert_all_hold(scripts);
 }

@@ -42,6 +42,7 @@ fn count(history: &History, met: &mut Tally) {
         let names = [
             format!("state {:?}", step.after),
             format!("{} in {:?}", event_name(step), step.before),
+            page_out_name(step),
             answer_name(step),
             register_name(step),
             timer_name(step),
@@ -60,6 +61,9 @@ fn all_that_must_be_met() -> Vec<String> {
         if state != State::Off {
             names.push(format!("Break entered: restart in {state:?}"));
         }
+    }
+    for state in [State::Ability, State::Ack, State::Complete] {
+        names.extend(EVENT_NAMES.map(|event| format!("{event} in {state:?}, page out")));
     }
     for state in STATES_WITH_A_TIME {
         names.extend(TICKS_NEAR_THE_TIME.map(|(_, when)| format!("tick {when} in {state:?}")));
@@ -144,6 +148,13 @@ fn timer_name(step: &Step) -> String {
 fn event_name(step: &Step) -> &'static str {
     let kind = usize::try_from(step.event[0]).unwrap_or(usize::MAX);
     EVENT_NAMES[kind.min(6)]
+}
+
+fn page_out_name(step: &Step) -> String {
+    match step.page_was_out {
+        true => format!("{} in {:?}, page out", event_name(step), step.before),
+        false => "no page out".to_string(),
+    }
 }
 
 fn answer_name(step: &Step) -> String {
