@@ -7,6 +7,7 @@
 use crate::event::{self, EventCells};
 use crate::history::History;
 use crate::random::Random;
+use reference::answer;
 use reference::device::registers::{CONTROL, ENABLE, RESET};
 use reference::device::State;
 use reference::line_mode::LSM;
@@ -189,13 +190,13 @@ impl Joined {
         let this = &mut self.sides[side];
         let answer = this.history.give(event);
         this.times.push(self.now);
-        if answer >> 56 == 0x82 {
+        if answer::kind(answer) == answer::SETTLED {
             this.settled = Some(answer);
         }
         if !matches!(this.history.device.state(), State::CheckLink | State::Up) {
             this.settled = None;
         }
-        if answer >> 56 == 0x81 {
+        if answer::kind(answer) == answer::ORDERED_PAGE {
             self.send(side, answer & ((1 << 48) - 1));
         }
     }
@@ -213,7 +214,9 @@ impl Joined {
     fn watch_the_link(&mut self) {
         let [left, right] = [LEFT, RIGHT].map(|side| self.sides[side].settled);
         let have_one_rate = match (left, right) {
-            (Some(left), Some(right)) => left & 0xFF == right & 0xFF,
+            (Some(left), Some(right)) => {
+                answer::settled_ability(left) == answer::settled_ability(right)
+            }
             _ => false,
         };
         if have_one_rate == self.link.is_some() {

@@ -9,6 +9,7 @@ use compare::event::{LINK, SENT, WRITE};
 use compare::history::Step;
 use compare::joined::{Joined, Side, LEFT, RIGHT};
 use compare::random::Random;
+use reference::answer;
 use reference::device::registers::{
     COMPLETE, CONTROL, ENABLE, LINK_LATCH, PAGE_RECEIVED, REMOTE_FAULT, RESET, STATUS,
 };
@@ -131,12 +132,12 @@ fn lines(joined: &Joined, answers: &[Vec<u64>]) -> Vec<Line> {
 /// What the answer says, in words.
 fn told_by_answer(step: &Step, answer: u64) -> Option<String> {
     let word = format!("{:012x}", answer & 0xFFFF_FFFF_FFFF);
-    match answer >> 56 {
+    match answer::kind(answer) {
         0 => None,
-        0x80 => Some(format!("hears page {word}{}", change(step))),
-        0x81 => Some(format!("orders page {word}")),
-        0x82 => Some(format!("page sent; {}{}", settled(answer), change(step))),
-        0x83 => Some(format!(
+        answer::GOOD_PAGE => Some(format!("hears page {word}{}", change(step))),
+        answer::ORDERED_PAGE => Some(format!("orders page {word}")),
+        answer::SETTLED => Some(format!("page sent; {}{}", settled(answer), change(step))),
+        answer::REGISTER_VALUE => Some(format!(
             "reads 513: {:04x}{}",
             answer as u16,
             status(answer as u16)
@@ -199,9 +200,9 @@ fn name(state: State) -> String {
 fn settled(answer: u64) -> String {
     let rate = RATES
         .iter()
-        .find(|rate| u64::from(rate.ability) == answer & 0xFF);
+        .find(|rate| u64::from(rate.ability) == answer::settled_ability(answer));
     let name = rate.map_or("an unknown rate", |rate| rate.name);
-    let role = if answer & 0x100 != 0 {
+    let role = if answer::settled_as_master(answer) {
         "master"
     } else {
         "slave"
@@ -212,7 +213,7 @@ fn settled(answer: u64) -> String {
 fn summary(side: usize, answers: &[u64]) -> String {
     let settlings: Vec<String> = answers
         .iter()
-        .filter(|answer| *answer >> 56 == 0x82)
+        .filter(|answer| answer::kind(**answer) == answer::SETTLED)
         .map(|answer| settled(*answer))
         .collect();
     format!(

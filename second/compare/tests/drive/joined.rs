@@ -8,7 +8,9 @@ use compare::joined::{Joined, Side, LEFT, RIGHT};
 use compare::random::Random;
 use compare::tally::Tally;
 use compare::words::{all_rates, one_rate};
-use reference::answer::register;
+use reference::answer::{
+    kind, register, settled_ability, settled_as_master, GOOD_PAGE, ORDERED_PAGE, SETTLED,
+};
 use reference::device::registers::{COMPLETE, STATUS};
 use reference::device::State;
 use reference::resolve::{COMMON_INHIBIT, RATES};
@@ -100,7 +102,8 @@ fn is_in_a_link(side: &Side) -> bool {
 /// How long this side waits for the link, with the rate that it has settled on.
 fn inhibit(joined: &Joined, side: usize) -> u64 {
     let settled = joined.sides[side].settled;
-    let is_this = |ability: u32| settled.is_some_and(|answer| answer & 0xFF == ability.into());
+    let is_this =
+        |ability: u32| settled.is_some_and(|answer| settled_ability(answer) == ability.into());
     let rate = RATES.iter().find(|rate| is_this(rate.ability));
     rate.map_or(COMMON_INHIBIT, |rate| rate.inhibit).into()
 }
@@ -152,16 +155,27 @@ fn assert_have_settled(left: &[u64], right: &[u64], met: &mut Tally) {
         assert_eq!(status & register(COMPLETE), register(COMPLETE));
     }
     let [left, right] = [left, right].map(last_settling);
-    let is_master = |settled: u64| settled & 0x100 != 0;
-    assert_eq!(left & 0xFF, right & 0xFF, "the two rates");
-    assert_ne!(is_master(left), is_master(right), "the two roles");
-    met.meet(&format!("rate {}", left & 0xFF));
-    let master = if is_master(left) { "left" } else { "right" };
+    assert_eq!(
+        settled_ability(left),
+        settled_ability(right),
+        "the two rates"
+    );
+    assert_ne!(
+        settled_as_master(left),
+        settled_as_master(right),
+        "the two roles"
+    );
+    met.meet(&format!("rate {}", settled_ability(left)));
+    let master = if settled_as_master(left) {
+        "left"
+    } else {
+        "right"
+    };
     met.meet(&format!("{master} is master"));
 }
 
 fn last_settling(answers: &[u64]) -> u64 {
-    let is_settling = |answer: &&u64| *answer >> 56 == 0x82;
+    let is_settling = |answer: &&u64| kind(**answer) == SETTLED;
     *answers
         .iter()
         .rfind(is_settling)
@@ -188,17 +202,17 @@ fn two_devices_in_step_never_meet() {
     let calls = [LEFT, RIGHT].map(|side| Call::run(&joined.sides[side].history.events()));
     assert_agreement(&calls);
     for answers in drives_answers(&calls) {
-        let count = |kind: u64| {
+        let count = |wanted: u64| {
             answers
                 .iter()
-                .filter(|answer| **answer >> 56 == kind)
+                .filter(|answer| kind(**answer) == wanted)
                 .count()
         };
         assert_eq!(
-            (count(0x80), count(0x82)),
+            (count(GOOD_PAGE), count(SETTLED)),
             (0, 0),
             "pages heard and settlings"
         );
-        assert!(count(0x81) > 50, "pages ordered");
+        assert!(count(ORDERED_PAGE) > 50, "pages ordered");
     }
 }

@@ -6,7 +6,9 @@ use compare::generate::resolve_call;
 use compare::kinds::{Kind, Kinds};
 use compare::random::Random;
 use compare::tally::Tally;
-use reference::answer::{settled, NONE, ROLES, SELECTOR, TIE, WIDE};
+use reference::answer::{
+    kind, settled, settled_as_master, NONE, ROLES, SELECTOR, SETTLED, TIE, WIDE,
+};
 use reference::calls;
 use reference::resolve::RATES;
 use reference::word::{FORCED_ROLE, HIGHEST_NONCE_BIT, SELECTOR as SELECTOR_FIELD};
@@ -15,7 +17,7 @@ const PAIRS: usize = 40_000;
 
 const TWO_TO_48: u64 = 1 << 48;
 
-/// The highest ability, which is no rate, and everything below it.
+/// The largest word that is not too wide.
 const ALL_ONES: u64 = TWO_TO_48 - 1;
 
 #[test]
@@ -179,7 +181,7 @@ const PAIR_KINDS: &[Kind<Call>] = &[
     }),
     ("wide, and the rest would settle", |call| {
         let narrow = calls::resolve(own(call) % TWO_TO_48, partner(call) % TWO_TO_48);
-        answer(call) == WIDE && narrow >> 56 == 0x82
+        answer(call) == WIDE && kind(narrow) == SETTLED
     }),
     ("selector: own", |call| {
         answer(call) == SELECTOR && SELECTOR_FIELD.of(partner(call)) == 1
@@ -203,7 +205,7 @@ const PAIR_KINDS: &[Kind<Call>] = &[
     }),
     ("settled against the order of the nonces", |call| {
         let own_is_higher = own(call) & 0x1F_0000 > partner(call) & 0x1F_0000;
-        answer(call) >> 56 == 0x82 && own_is_higher != (answer(call) & 0x100 != 0)
+        kind(answer(call)) == SETTLED && own_is_higher != settled_as_master(answer(call))
     }),
 ];
 

@@ -2,12 +2,12 @@
 
 use compare::agreement::assert_agreement;
 use compare::call::Call;
-use compare::event::{register, EDGE, LINK, READ, SENT, TICK, WRITE};
+use compare::event::{register, LINK, TICK, WRITE};
 use compare::history::{History, Step};
 use compare::random::Random;
 use compare::runs::random_run;
 use compare::tally::Tally;
-use reference::answer::{CHANGED, ECHO, TIE};
+use reference::answer::{self, CHANGED, ECHO, TIE};
 use reference::device::registers::{CONTROL, ENABLE, RESET, RESTART};
 use reference::device::{State, STATES};
 use reference::resolve::RATES;
@@ -72,11 +72,11 @@ fn all_that_must_be_met() -> Vec<String> {
     let ways = ["enable", "tie", "changed", "echo", "time-out", "link down"];
     names.extend(ways.map(|way| format!("Break entered: {way}")));
     names.extend((1..=11).map(|number| format!("refusal {number}")));
-    for (ability, is_master) in RATES
-        .iter()
-        .flat_map(|rate| [(rate.ability, 0), (rate.ability, 1)])
-    {
-        names.push(format!("settled on A{ability}, master {is_master}"));
+    for rate in &RATES {
+        names.extend([true, false].map(|is_master| {
+            let ability = rate.ability;
+            format!("settled on A{ability}, master {is_master}")
+        }));
     }
     names.extend(["a page read".to_string(), "a page ordered".to_string()]);
     for number in (512..=519)
@@ -158,11 +158,12 @@ fn page_out_name(step: &Step) -> String {
 }
 
 fn answer_name(step: &Step) -> String {
-    let value = step.answer & 0xFF;
-    match step.answer >> 56 {
-        0x80 => "a page read".to_string(),
-        0x81 => "a page ordered".to_string(),
-        0x82 => format!("settled on A{value}, master {}", step.answer >> 8 & 1),
+    let ability = answer::settled_ability(step.answer);
+    let is_master = answer::settled_as_master(step.answer);
+    match answer::kind(step.answer) {
+        answer::GOOD_PAGE => "a page read".to_string(),
+        answer::ORDERED_PAGE => "a page ordered".to_string(),
+        answer::SETTLED => format!("settled on A{ability}, master {is_master}"),
         number => format!("refusal {number}"),
     }
 }
@@ -186,8 +187,7 @@ fn way_into_break(step: &Step) -> String {
         (WRITE, before, State::Break) if is_restart(step) => format!("restart in {before:?}"),
         (TICK, State::CheckLink, State::Break) => "time-out".to_string(),
         (LINK, State::Up, State::Break) => "link down".to_string(),
-        (EDGE | TICK | SENT | LINK | READ | WRITE, _, _) => "not at all".to_string(),
-        _ => "not by an unknown kind".to_string(),
+        _ => "not at all".to_string(),
     }
 }
 

@@ -11,7 +11,7 @@ use compare::random::Random;
 use compare::runs::Run;
 use compare::tally::Tally;
 use compare::words::advertisement;
-use reference::answer::register;
+use reference::answer::{kind, register, ORDERED_PAGE, SETTLED};
 use reference::device::registers::{CONTROL, ENABLE, PAGE_RECEIVED, REMOTE_FAULT, RESTART, STATUS};
 use reference::device::State;
 use reference::word::{ability, ACK, ECHOED_NONCE, NEXT_PAGE, NONCE};
@@ -203,8 +203,8 @@ fn count_later(first: &[u64], second: &[u64], first_read: Option<usize>, met: &m
         met.meet(LATER_KINDS[usize::from(is_same)]);
     }
     let kinds: [fn(u64) -> bool; 3] = [
-        |answer| answer >> 56 == 0x81,
-        |answer| answer >> 56 == 0x82,
+        |answer| kind(answer) == ORDERED_PAGE,
+        |answer| kind(answer) == SETTLED,
         |answer| STATUS_IN_UP.contains(&answer),
     ];
     for (is_so, name) in kinds.iter().zip(&LATER_KINDS[2..]) {
