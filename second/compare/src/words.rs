@@ -14,7 +14,7 @@ pub fn all_rates() -> u64 {
 }
 
 /// The ability of any one rate.
-pub fn one_rate(random: &mut Random) -> u64 {
+fn one_rate(random: &mut Random) -> u64 {
     let rate = &RATES[random.below(RATES.len() as u64) as usize];
     ability(rate.ability).ones()
 }

@@ -7,17 +7,17 @@ use compare::history::Step;
 use compare::joined::{Joined, Side, LEFT, RIGHT};
 use compare::random::Random;
 use compare::tally::Tally;
-use compare::words::{all_rates, one_rate};
+use compare::words::all_rates;
 use reference::answer::{
     kind, register, settled_ability, settled_as_master, GOOD_PAGE, ORDERED_PAGE, SETTLED,
 };
 use reference::device::registers::{COMPLETE, STATUS};
 use reference::device::State;
-use reference::resolve::{COMMON_INHIBIT, RATES};
+use reference::resolve::{Rate, COMMON_INHIBIT, RATES};
 use reference::word::{ability, FORCED_ROLE, HIGHEST_NONCE_BIT};
 
-/// So many pairs for each way of swapping.
-const PAIRS: usize = 27;
+/// So many pairs for each way of swapping, three for each rate.
+const PAIRS: usize = 3 * RATES.len();
 
 const MILLISECOND: u64 = 1_000_000;
 
@@ -44,12 +44,14 @@ const FREE: u64 = 0;
 const MASTER: u64 = FORCED_ROLE.ones() | HIGHEST_NONCE_BIT.ones();
 const SLAVE: u64 = FORCED_ROLE.ones();
 
-/// What a module with any rates and any role advertises.
-fn any_module(random: &mut Random) -> u64 {
-    let rate = one_rate(random);
-    let others = random.any_number() & random.any_number() & all_rates();
-    let others = random.pick(&[0, others]);
-    rate | others | random.pick(&[FREE, FREE, MASTER, SLAVE])
+/// What the first left module advertises: a rate, and any role. With a first right module
+/// that has no rate, it does not matter which rates are there, so there it has more.
+fn first_module(random: &mut Random, rate: &Rate, swap: Swap) -> u64 {
+    let others = match swap {
+        Swap::HeadWithoutRate => random.any_number() & all_rates(),
+        _ => 0,
+    };
+    ability(rate.ability).ones() | others | random.pick(&[FREE, FREE, MASTER, SLAVE])
 }
 
 /// What a module advertises that can settle with the other one.
@@ -64,9 +66,9 @@ fn module_that_fits(random: &mut Random, other: u64) -> u64 {
 }
 
 /// Two modules settle, and again after one of them was swapped.
-fn settle_twice(random: &mut Random, swap: Swap) -> Joined {
+fn settle_twice(random: &mut Random, rate: &Rate, swap: Swap) -> Joined {
     let mut joined = Joined::new(Random::new(random.any_number()));
-    let left = any_module(random);
+    let left = first_module(random, rate, swap);
     let fitting = module_that_fits(random, left);
     let reached: fn(&Joined) -> bool = match swap {
         Swap::WhenUp => |joined| joined.both_are(State::Up),
@@ -127,7 +129,8 @@ fn two_modules_settle_and_settle_again_after_a_swap() {
     let mut calls = Vec::new();
     for pair in 0..PAIRS * SWAPS.len() {
         let swap = SWAPS[pair % SWAPS.len()];
-        let joined = settle_twice(&mut random, swap);
+        let rate = &RATES[pair / SWAPS.len() % RATES.len()];
+        let joined = settle_twice(&mut random, rate, swap);
         met.meet(&format!("{swap:?}"));
         for side in &joined.sides {
             assert!(side.history.steps.len() <= MOST_EVENTS);
@@ -136,7 +139,8 @@ fn two_modules_settle_and_settle_again_after_a_swap() {
     }
     assert_agreement(&calls);
     for answers in drives_answers(&calls).chunks(2) {
-        assert_have_settled(&answers[LEFT], &answers[RIGHT], &mut met);
+        count_settlings(&answers[LEFT], &mut met);
+        assert_have_settled(&answers[LEFT], &answers[RIGHT]);
     }
     met.assert_all_met();
 }
@@ -149,7 +153,7 @@ fn all_that_must_be_met() -> Vec<String> {
 }
 
 /// Both sides say that they are up, on the same rate and in opposite roles.
-fn assert_have_settled(left: &[u64], right: &[u64], met: &mut Tally) {
+fn assert_have_settled(left: &[u64], right: &[u64]) {
     for answers in [left, right] {
         let status = answers[answers.len() - 1];
         assert_eq!(status & register(COMPLETE), register(COMPLETE));
@@ -165,21 +169,27 @@ fn assert_have_settled(left: &[u64], right: &[u64], met: &mut Tally) {
         settled_as_master(right),
         "the two roles"
     );
-    met.meet(&format!("rate {}", settled_ability(left)));
-    let master = if settled_as_master(left) {
-        "left"
-    } else {
-        "right"
-    };
-    met.meet(&format!("{master} is master"));
+}
+
+fn settlings(answers: &[u64]) -> Vec<u64> {
+    let is_settling = |answer: &u64| kind(*answer) == SETTLED;
+    answers.iter().copied().filter(is_settling).collect()
 }
 
 fn last_settling(answers: &[u64]) -> u64 {
-    let is_settling = |answer: &&u64| kind(**answer) == SETTLED;
-    *answers
-        .iter()
-        .rfind(is_settling)
-        .expect("the side has settled")
+    *settlings(answers).last().expect("the side has settled")
+}
+
+fn count_settlings(lefts_answers: &[u64], met: &mut Tally) {
+    for answer in settlings(lefts_answers) {
+        met.meet(&format!("rate {}", settled_ability(answer)));
+        let master = if settled_as_master(answer) {
+            "left"
+        } else {
+            "right"
+        };
+        met.meet(&format!("{master} is master"));
+    }
 }
 
 /// OPEN-POINTS 57: two devices enabled at the same reading, with ticks in step, order at
