@@ -1,16 +1,25 @@
 //! One call of `drive`: an operation and its arguments.
 
+use crate::event::EventCells;
 use std::fmt;
 
 pub const CHECK: u64 = 1;
 pub const JUDGE: u64 = 2;
 pub const WRITE: u64 = 3;
 pub const READ: u64 = 4;
+pub const RESOLVE: u64 = 5;
+pub const RUN: u64 = 6;
 pub const EDGES: u64 = 7;
-/// The operations that this program has, each with the fewest arguments that it needs.
-pub const HERE: [(u64, usize); 5] = [(CHECK, 1), (JUDGE, 2), (WRITE, 4), (READ, 2), (EDGES, 1)];
-/// Operations that `drive` knows and this program does not have yet.
-pub const NOT_HERE_YET: [u64; 2] = [5, 6];
+/// All operations, each with the fewest arguments with which it has an answer.
+pub const OPERATIONS: [(u64, usize); 7] = [
+    (CHECK, 1),
+    (JUDGE, 2),
+    (WRITE, 4),
+    (READ, 2),
+    (RESOLVE, 2),
+    (RUN, 3),
+    (EDGES, 1),
+];
 
 /// More arguments than this are not printed.
 const MOST_PRINTED: usize = 8;
@@ -49,6 +58,14 @@ impl Call {
         call
     }
 
+    pub fn resolve(own: u64, partner: u64) -> Call {
+        Call::new(RESOLVE, &[own, partner])
+    }
+
+    pub fn run(events: &[EventCells]) -> Call {
+        Call::new(RUN, events.as_flattened())
+    }
+
     pub fn edges(mode: u64, readings: &[u64]) -> Call {
         let mut call = Call::new(EDGES, &[mode]);
         call.arguments.extend(readings);
@@ -80,8 +97,10 @@ impl fmt::Display for Call {
             JUDGE => "judge",
             WRITE => "write",
             READ => "read",
+            RESOLVE => "resolve",
+            RUN => "run",
             EDGES => "edges",
-            _ => "unknown here",
+            _ => "unknown",
         };
         write!(out, "operation {} ({name}), ", self.operation)?;
         write!(out, "arguments {}", printed(&self.arguments))

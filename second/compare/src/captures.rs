@@ -292,14 +292,19 @@ fn edge_added(random: &mut Random, mode: &LineMode) -> Vec<u32> {
 fn flipped_bits(random: &mut Random, mode: &LineMode) -> Vec<u32> {
     let mut positions = any_positions(random, mode);
     for _ in 0..=random.below(3) {
-        let bit = 28 + 2 * random.below(64) as usize;
-        match positions.binary_search(&bit) {
-            Ok(index) => drop(positions.remove(index)),
-            Err(index) => positions.insert(index, bit),
-        }
+        flip_a_bit(random, &mut positions);
     }
     let draw = any_precision(random);
     gaps(random, mode, &positions, draw)
+}
+
+/// Takes away the edge of one of the 64 bits, or puts one in.
+fn flip_a_bit(random: &mut Random, positions: &mut Vec<usize>) {
+    let bit = 28 + 2 * random.below(64) as usize;
+    match positions.binary_search(&bit) {
+        Ok(index) => drop(positions.remove(index)),
+        Err(index) => positions.insert(index, bit),
+    }
 }
 
 /// Half of these go on after the changed gap.
@@ -422,4 +427,29 @@ fn starts_and_window_ends(random: &mut Random, mode: &LineMode) -> Vec<u32> {
         }
     }
     gaps
+}
+
+/// The gaps of a page with this word, each somewhere in its window.
+pub fn page_gaps(random: &mut Random, mode: &LineMode, word: u64) -> Vec<u32> {
+    let draw = any_precision(random);
+    gaps(random, mode, &transitions(mode, word), draw)
+}
+
+/// The gaps of a page with this word that lost an edge or its end, or has a flipped bit or
+/// another gap.
+pub fn damaged_page_gaps(random: &mut Random, mode: &LineMode, word: u64) -> Vec<u32> {
+    let mut positions = transitions(mode, word);
+    let index = any_index(random, &positions);
+    let draw = any_precision(random);
+    match random.below(4) {
+        0 => drop(positions.remove(index)),
+        1 => positions.truncate(index + 1),
+        2 => flip_a_bit(random, &mut positions),
+        _ => {
+            let mut gaps = gaps(random, mode, &positions, draw);
+            gaps[index.saturating_sub(1)] = any_gap(random, mode);
+            return gaps;
+        }
+    }
+    gaps(random, mode, &positions, draw)
 }

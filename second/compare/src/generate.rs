@@ -3,6 +3,8 @@
 use crate::call::Call;
 use crate::captures::any_short_capture;
 use crate::random::Random;
+use crate::runs::random_run;
+use crate::words::two_words;
 use reference::line_mode::{line_mode, LineMode, HSM, LSM};
 use reference::{check, page};
 
@@ -18,6 +20,9 @@ const MOST_SPARE_ENTRIES: u64 = 60;
 
 /// The captures of calls that are sent among others have up to so many readings.
 const MOST_SHORT_READINGS: usize = 40;
+
+/// The runs of calls that are sent among others have up to so many events.
+const MOST_SHORT_EVENTS: u64 = 15;
 
 pub const WRONG_MODES: [u64; 10] = [
     2,
@@ -62,7 +67,8 @@ pub fn wide_word(random: &mut Random) -> u64 {
     }
 }
 
-fn few_ones(random: &mut Random, bits: u64) -> u64 {
+/// A number with one to three ones among so many lowest bits.
+pub fn few_ones(random: &mut Random, bits: u64) -> u64 {
     (0..=random.below(3)).fold(0, |word, _| word | 1 << random.below(bits))
 }
 
@@ -233,6 +239,21 @@ fn short_capture(random: &mut Random) -> (u64, Vec<u64>) {
         capture.mode
     };
     (mode, reading_cells(random, &capture.readings))
+}
+
+pub fn resolve_call(random: &mut Random) -> Call {
+    let (own, partner) = two_words(random);
+    Call::resolve(own, partner)
+}
+
+/// A run of a few events. Some have a cell or two after the last event.
+pub fn short_run_call(random: &mut Random) -> Call {
+    let events = random.below(MOST_SHORT_EVENTS + 1) as usize;
+    let mut call = Call::run(&random_run(random, events).events());
+    for _ in 0..random.below(3) {
+        call.arguments.push(random.below(8));
+    }
+    call
 }
 
 pub fn first_reading(random: &mut Random) -> u64 {

@@ -1,19 +1,25 @@
 //! Compares the programs `drive` and `listing` with the reference, through a pipe.
 //!
-//! A test makes calls (`call`, `generate`, `captures`), sends them to `drive` in batches
-//! (`drive`, `program`, `process`) and holds the output against what the reference gives
-//! (`model`, `agreement`). `listing` does the same for the program of that name.
+//! A test makes calls (`call`, `generate`, `captures`, `words`, `runs`, `joined`), sends
+//! them to `drive` in batches (`drive`, `program`, `process`) and holds the output against
+//! what the reference gives (`model`, `agreement`). `listing` does the same for the program
+//! of that name.
 
 pub mod agreement;
 pub mod call;
 pub mod captures;
 pub mod cells;
 pub mod drive;
+pub mod event;
 pub mod generate;
+pub mod history;
+pub mod joined;
 pub mod kinds;
 pub mod listing;
 pub mod model;
 pub mod process;
 pub mod program;
 pub mod random;
+pub mod runs;
 pub mod tally;
+pub mod words;

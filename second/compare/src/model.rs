@@ -1,22 +1,18 @@
 //! What `drive` has to do, over the reference: bytes in, bytes out.
 
-use crate::call::{Call, CHECK, EDGES, JUDGE, NOT_HERE_YET, READ, WRITE};
+use crate::call::{Call, CHECK, EDGES, JUDGE, READ, RESOLVE, RUN, WRITE};
 use crate::cells::{modulo_2_to_32, to_bytes, whole_cells, MOST_CELLS};
 use reference::calls;
 
-/// The call asks for an operation that `drive` knows and this model does not have yet.
-#[derive(Debug, PartialEq)]
-pub struct NotModelledYet;
-
 /// Everything that `drive` writes for this input.
-pub fn output(input: &[u8]) -> Result<Vec<u8>, NotModelledYet> {
+pub fn output(input: &[u8]) -> Vec<u8> {
     let mut cells = Vec::new();
     for call in whole_calls(input) {
-        let answer = answer_cells(&call)?;
+        let answer = answer_cells(&call);
         cells.push(answer.len() as u64);
         cells.extend(answer);
     }
-    Ok(to_bytes(&cells))
+    to_bytes(&cells)
 }
 
 /// The calls that are answered: those that end before the input does, and within
@@ -45,17 +41,19 @@ fn first_call(cells: &[u64]) -> Option<(Call, &[u64])> {
 
 /// The answer cells of one call. Too few arguments and unknown operations have none;
 /// `..` in a pattern stands for arguments that are not looked at.
-pub fn answer_cells(call: &Call) -> Result<Vec<u64>, NotModelledYet> {
+pub fn answer_cells(call: &Call) -> Vec<u64> {
     match (call.operation, &call.arguments[..]) {
-        (CHECK, [word, ..]) => Ok(vec![calls::check(*word)]),
-        (JUDGE, [mode, gap, ..]) => Ok(vec![calls::judge(*mode, modulo_2_to_32(*gap))]),
+        (CHECK, [word, ..]) => vec![calls::check(*word)],
+        (JUDGE, [mode, gap, ..]) => vec![calls::judge(*mode, modulo_2_to_32(*gap))],
         (WRITE, [mode, word, first, place, entries @ ..]) => {
-            Ok(write(*mode, *word, *first, *place, entries))
+            write(*mode, *word, *first, *place, entries)
         }
-        (READ, [mode, place, readings @ ..]) => Ok(read(*mode, *place, readings)),
-        (EDGES, [mode, readings @ ..]) => Ok(edges(*mode, readings)),
-        (operation, _) if NOT_HERE_YET.contains(&operation) => Err(NotModelledYet),
-        _ => Ok(Vec::new()),
+        (READ, [mode, place, readings @ ..]) => read(*mode, *place, readings),
+        (RESOLVE, [own, partner, ..]) => vec![calls::resolve(*own, *partner)],
+        // Cells after the last whole event are not looked at.
+        (RUN, cells) => calls::run(cells.as_chunks().0),
+        (EDGES, [mode, readings @ ..]) => edges(*mode, readings),
+        _ => Vec::new(),
     }
 }
 
@@ -94,7 +92,7 @@ mod tests {
     fn whole_calls_are_answered_and_a_cut_call_is_not() {
         let input = to_bytes(&[1, 1, 1 << 47, 99, 0, 1, 1]);
         let expected = to_bytes(&[1, answer::number(0x8005), 0]);
-        assert_eq!(output(&input), Ok(expected));
+        assert_eq!(output(&input), expected);
     }
 
     #[test]
@@ -106,23 +104,29 @@ mod tests {
     #[test]
     fn entries_are_answered_modulo_2_to_32_also_on_a_refusal() {
         let call = Call::write(2, 0, 0, 0, &[(3 << 32) + 5]);
-        assert_eq!(answer_cells(&call), Ok(vec![answer::MODE, 5]));
+        assert_eq!(answer_cells(&call), vec![answer::MODE, 5]);
     }
 
     #[test]
     fn a_refused_reading_leaves_the_named_place() {
         let call = Call::read(0, 9, &[0, 30]);
-        assert_eq!(answer_cells(&call), Ok(vec![answer::ROOM, 9]));
+        assert_eq!(answer_cells(&call), vec![answer::ROOM, 9]);
     }
 
     #[test]
     fn edges_in_a_wrong_mode_have_one_answer() {
         let call = Call::edges(2, &[0, 30, 60]);
-        assert_eq!(answer_cells(&call), Ok(vec![answer::MODE]));
+        assert_eq!(answer_cells(&call), vec![answer::MODE]);
     }
 
     #[test]
-    fn later_operations_are_not_guessed() {
-        assert_eq!(answer_cells(&Call::new(5, &[])), Err(NotModelledYet));
+    fn cells_after_the_last_whole_event_are_not_looked_at() {
+        let event = [4, 0, 513];
+        let fresh_status = answer::register(8);
+        for further in [&[][..], &[4], &[4, 0]] {
+            let call = Call::new(RUN, &[&event, further].concat());
+            assert_eq!(answer_cells(&call), [fresh_status]);
+        }
+        assert_eq!(answer_cells(&Call::new(RUN, &[4, 0])), []);
     }
 }

@@ -1,7 +1,10 @@
 //! The calls that programs outside can make, each with its answer as one number.
 //! Wrong things are looked at in 01's order: Mode, Wide, Room.
 
+use crate::device::Device;
+use crate::event::event;
 use crate::line_mode::line_mode;
+use crate::resolve::{self, Settled};
 use crate::{answer, check, gap, page, reader};
 
 /// The check bits of a word, or Wide.
@@ -70,6 +73,30 @@ pub fn edges(mode: u64, readings: &[u32]) -> Result<Vec<u64>, u64> {
     }
 }
 
+/// The rate and the role that two words lead to, seen from the own side, or a refusal.
+pub fn resolve(own: u64, partner: u64) -> u64 {
+    resolve::resolve(own, partner).map_or_else(|refusal| refusal, Settled::answer)
+}
+
+/// What a fresh device answers to each event.
+pub fn run(events: &[[u64; 3]]) -> Vec<u64> {
+    let mut device = Device::fresh();
+    events
+        .iter()
+        .map(|cells| step(&mut device, *cells))
+        .collect()
+}
+
+/// Gives the device an event: a kind, a clock reading and an argument. Kinds that 01 does
+/// not name answer nothing and alter nothing.
+pub fn step(device: &mut Device, [kind, reading, argument]: [u64; 3]) -> u64 {
+    match event(kind, argument) {
+        // Only the low half of the reading is kept: it is taken modulo 2^32.
+        Some(event) => device.step(reading as u32, event),
+        None => answer::NOTHING,
+    }
+}
+
 #[cfg(test)]
 mod tests {
     use super::*;
@@ -79,7 +106,7 @@ mod tests {
     #[test]
     fn check_refuses_a_wide_word() {
         assert_eq!(check(TOO_WIDE), answer::WIDE);
-        assert_eq!(check(TOO_WIDE - 1) >> 56, 0x84);
+        assert_eq!(answer::kind(check(TOO_WIDE - 1)), answer::NUMBER);
     }
 
     #[test]
@@ -141,6 +168,14 @@ mod tests {
         assert_eq!(read(&list, 0, 0), (answer::CUT, Some(3)));
         assert_eq!(read(&list, 2, 0), (answer::CUT, Some(3)));
         assert_eq!(read(&list, 3, 0), (answer::CUT, Some(5)));
+    }
+
+    #[test]
+    fn a_run_answers_every_event_and_skips_unknown_kinds() {
+        let events = [[4, 0, 513], [6, 0, 513], [4, 1 << 40, 520], [2, 0, 0]];
+        let answers = [answer::register(8), 0, answer::REGISTER, answer::TURN];
+        assert_eq!(run(&events), answers);
+        assert_eq!(run(&[]), []);
     }
 
     #[test]

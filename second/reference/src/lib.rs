@@ -1,4 +1,4 @@
-//! A second program for the page and the line, written from document 01 alone.
+//! A second program for the page, the line and the negotiation, written from document 01 alone.
 //!
 //! It is made to be read and believed, not to be fast: every rule of 01 stands here
 //! once, in the shape in which 01 says it.
@@ -6,11 +6,15 @@
 pub mod answer;
 pub mod calls;
 pub mod check;
+pub mod device;
+pub mod event;
 pub mod gap;
 pub mod line_mode;
 pub mod listing;
 pub mod page;
 pub mod reader;
+pub mod resolve;
+pub mod word;
 
 #[cfg(test)]
 mod table_of_01;

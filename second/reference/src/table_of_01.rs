@@ -1,5 +1,7 @@
-//! P1 to P8 of document 01's table. P9 to P14 belong to parts that are not here yet.
+//! P1 to P14 of document 01's table.
 
+use crate::answer;
+use crate::calls::{resolve, run};
 use crate::check::check_bits;
 use crate::gap::time_between;
 use crate::line_mode::{LineMode, HSM, LSM};
@@ -50,4 +52,34 @@ fn p7_zero_page_in_lsm() {
 #[test]
 fn p8_highest_bit_in_hsm() {
     assert_eq!(edge_count(&HSM, 1 << 47), 85);
+}
+
+#[test]
+fn p9_higher_nonce_at_the_partner_is_slave() {
+    assert_eq!(resolve(0x850001, 0xA90001), answer::settled(2, false));
+}
+
+#[test]
+fn p10_both_forced_to_one_role() {
+    assert_eq!(resolve(0x851001, 0xA91001), answer::ROLES);
+}
+
+#[test]
+fn p11_the_one_forced_side_is_master() {
+    assert_eq!(resolve(0x951001, 0xA90001), answer::settled(2, true));
+}
+
+#[test]
+fn p12_equal_words_tie() {
+    assert_eq!(resolve(0x850001, 0x850001), answer::TIE);
+}
+
+#[test]
+fn p13_no_common_rate() {
+    assert_eq!(resolve(0x450001, 0xA90001), answer::NONE);
+}
+
+#[test]
+fn p14_a_fresh_status() {
+    assert_eq!(run(&[[4, 0, 513]]), [answer::register(0x0008)]);
 }

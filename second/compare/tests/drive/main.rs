@@ -6,9 +6,17 @@
 mod edges;
 mod every_gap;
 mod every_place;
+mod joined;
+mod points_of_negotiation;
+mod points_of_registers;
 mod protocol;
 mod random_calls;
 mod random_captures;
 mod random_scripts;
 mod reading;
+mod resolving;
+mod runs;
+mod same_after_break;
+mod script;
+mod settling_log;
 mod walk;

@@ -1,10 +1,12 @@
 //! The protocol of `drive`: what it answers to calls that are unknown, cut or too long.
 
 use compare::agreement::assert_scripts_agree;
-use compare::call::{all_cells, printed, Call, CHECK, EDGES, HERE, JUDGE, READ, WRITE};
+use compare::call::{
+    all_cells, printed, Call, CHECK, EDGES, JUDGE, OPERATIONS, READ, RESOLVE, RUN, WRITE,
+};
 use compare::cells::{to_bytes, whole_cells, MOST_CELLS};
 use compare::{drive, model};
-use reference::answer::{number, MODE};
+use reference::answer::{number, register, MODE, NOTHING, TIE};
 
 /// A call whose answer is easy to know again: 8005 hex.
 fn known_check() -> Call {
@@ -31,7 +33,7 @@ fn assert_output(cells: &[u64], expected: &[u64]) {
         printed(&whole_cells(&output)),
         output.len()
     );
-    assert!(model::output(&input) == Ok(output), "the model differs");
+    assert!(model::output(&input) == output, "the model differs");
 }
 
 /// Sends calls that have no answer, each with a known call behind it that has one.
@@ -57,16 +59,17 @@ fn unknown_operations_answer_no_cells() {
 fn known_operations_with_too_few_arguments_answer_no_cells() {
     let too_few =
         |(operation, needed)| (0..needed).map(move |count| Call::new(operation, &vec![1; count]));
-    assert_no_cells(HERE.into_iter().flat_map(too_few));
+    assert_no_cells(OPERATIONS.into_iter().flat_map(too_few));
 }
 
 #[test]
-fn further_arguments_of_check_and_judge_are_not_looked_at() {
+fn further_arguments_of_check_judge_and_resolve_are_not_looked_at() {
     let calls = [
         Call::new(CHECK, &[1 << 47, 5]),
         Call::new(CHECK, &[1 << 47, u64::MAX, 1, 1, 1, 1]),
         Call::new(JUDGE, &[0, 30, 2]),
         Call::new(JUDGE, &[2, 30, 0, 30, 0, 30]),
+        Call::new(RESOLVE, &[0x850001, 0x850001, 0xA90001]),
         known_check(),
     ];
     let answers = [
@@ -74,10 +77,37 @@ fn further_arguments_of_check_and_judge_are_not_looked_at() {
         number(0x8005),
         number(1),
         MODE,
+        TIE,
         number(0x8005),
     ];
     let expected: Vec<u64> = answers.into_iter().flat_map(|answer| [1, answer]).collect();
     assert_output(&all_cells(&calls), &expected);
+}
+
+#[test]
+fn cells_after_the_last_whole_event_of_a_run_are_not_looked_at() {
+    let read_status = [4, 0, 513];
+    let mut cells = Call::new(RUN, &[]).cells();
+    let mut expected = vec![0];
+    for further in [&[][..], &[4], &[5, 1]] {
+        cells.extend(Call::new(RUN, &[&read_status, &read_status, further].concat()).cells());
+        expected.extend([2, register(8), register(8)]);
+    }
+    assert_output(&cells, &expected);
+}
+
+#[test]
+fn a_run_may_fill_all_65_536_cells() {
+    // 21 844 events and two cells more. All but the last write 515, which that one reads.
+    let write = |value: u64| [5, value, 515 << 16 | value];
+    let mut events: Vec<u64> = (0..21_843).flat_map(write).collect();
+    events.extend([4, 0, 515, 5, 0]);
+    let run = Call::new(RUN, &events);
+    assert_eq!(run.length(), MOST_CELLS);
+    let mut expected = vec![21_844];
+    expected.extend(vec![NOTHING; 21_843]);
+    expected.push(register(21_842));
+    assert_output(&run.cells(), &expected);
 }
 
 #[test]
@@ -98,10 +128,12 @@ fn a_call_with_more_arguments_than_the_input_has_is_not_answered() {
         1 << 61,
         (1 << 61) + 1,
         (1 << 32) + 1,
+        (1 << 61) + 2,
+        (1 << 61) + 3,
     ];
     let mut scripts = Vec::new();
     for (index, number_of_arguments) in numbers.into_iter().enumerate() {
-        let operation = [CHECK, JUDGE, WRITE, READ, EDGES, 99][index % 6];
+        let operation = [CHECK, JUDGE, WRITE, READ, EDGES, RESOLVE, RUN, 99][index];
         let mut cells = known_check().cells();
         cells.extend([operation, number_of_arguments, 0, 0, 0, 0]);
         cells.extend(known_check().cells());

@@ -90,7 +90,7 @@ const JUDGE_KINDS: &[Kind<Call>] = &[
         ends.contains(&call.arguments[1])
     }),
     ("gap above 2^32 that is a number of positions", |call| {
-        call.arguments[1] > LARGEST_READING && judgement(call) >> 56 == 0x84
+        call.arguments[1] > LARGEST_READING && answer::kind(judgement(call)) == answer::NUMBER
     }),
     ("mode 2 or 3", |call| [2, 3].contains(&call.arguments[0])),
     ("mode 2^32", |call| call.arguments[0] == 1 << 32),

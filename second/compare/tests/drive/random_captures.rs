@@ -104,7 +104,7 @@ fn attempts(capture: &Capture) -> Vec<Attempt> {
 fn assert_outcomes_met(calls: &[Call], outcomes: &[&str]) {
     let mut met = Tally::of(outcomes.iter().copied());
     for call in calls {
-        let cells = model::answer_cells(call).expect("the model has these operations");
+        let cells = model::answer_cells(call);
         // The second cell of a reading is no answer.
         let answers = match call.operation {
             READ => &cells[..1],

@@ -1,9 +1,11 @@
 //! Random input, most of it nonsense: `drive` must end well and do what the model does.
 
 use compare::agreement::assert_scripts_agree;
-use compare::call::{all_cells, Call, HERE};
+use compare::call::{all_cells, Call, OPERATIONS};
 use compare::cells::to_bytes;
-use compare::generate::{check_call, edges_call, judge_call, read_call, write_call};
+use compare::generate::{
+    check_call, edges_call, judge_call, read_call, resolve_call, short_run_call, write_call,
+};
 use compare::kinds::{Kind, Kinds};
 use compare::model;
 use compare::random::Random;
@@ -15,7 +17,7 @@ const MOST_BYTES: u64 = 2000;
 #[test]
 fn random_scripts_give_what_the_model_gives() {
     let mut random = Random::from_environment();
-    let scripts: Vec<Vec<u8>> = (0..SCRIPTS).map(|_| modelled_script(&mut random)).collect();
+    let scripts: Vec<Vec<u8>> = (0..SCRIPTS).map(|_| script(&mut random)).collect();
     let mut met = Kinds::new(SCRIPT_KINDS);
     scripts.iter().for_each(|script| met.count(script));
     met.assert_all_met();
@@ -38,9 +40,12 @@ const SCRIPT_KINDS: &[Kind<Vec<u8>>] = &[
     ("has an answered reading and answered edges", |script| {
         answered(script, &[4, 7])
     }),
+    ("has an answered resolving and an answered run", |script| {
+        answered(script, &[5, 6])
+    }),
     ("has a call with too few arguments", |script| {
         let has_too_few = |call: &Call| {
-            HERE.iter().any(|(operation, needed)| {
+            OPERATIONS.iter().any(|(operation, needed)| {
                 call.operation == *operation && call.arguments.len() < *needed
             })
         };
@@ -58,7 +63,7 @@ const SCRIPT_KINDS: &[Kind<Vec<u8>>] = &[
 fn answered(script: &[u8], operations: &[u64]) -> bool {
     let calls = model::whole_calls(script);
     operations.iter().all(|operation| {
-        let is_answered = |call: &Call| model::answer_cells(call) != Ok(Vec::new());
+        let is_answered = |call: &Call| !model::answer_cells(call).is_empty();
         let mut of_this = calls.iter().filter(|call| call.operation == *operation);
         of_this.any(is_answered)
     })
@@ -68,16 +73,6 @@ fn answered(script: &[u8], operations: &[u64]) -> bool {
 fn left_over(script: &[u8]) -> usize {
     let calls = model::whole_calls(script);
     script.len() - 8 * calls.iter().map(Call::length).sum::<usize>()
-}
-
-/// A script that asks for no operation that the model does not have yet.
-fn modelled_script(random: &mut Random) -> Vec<u8> {
-    loop {
-        let script = script(random);
-        if model::output(&script).is_ok() {
-            return script;
-        }
-    }
 }
 
 fn script(random: &mut Random) -> Vec<u8> {
@@ -106,7 +101,7 @@ fn small_cell(random: &mut Random) -> u64 {
     match random.below(20) {
         0 => 8 + random.below(10),
         1 => random.any_number() >> random.below(64),
-        _ => random.pick(&[0, 1, 2, 3, 4, 7]),
+        _ => random.below(8),
     }
 }
 
@@ -124,14 +119,16 @@ fn calls(random: &mut Random) -> Vec<u8> {
 }
 
 fn any_call(random: &mut Random) -> Call {
-    match random.below(10) {
+    match random.below(12) {
         0 => Call::new(random.pick(&[0, 8, 99, u64::MAX]), &[3; 4]),
-        1 => Call::new(random.pick(&HERE).0, &[1]),
+        1 => Call::new(random.pick(&OPERATIONS).0, &[1]),
         2 => write_call(random),
         3 => Call::write(random.below(3), 0, 0, 0, &[9; 3]),
         4 | 5 => judge_call(random),
         6 => read_call(random),
         7 => edges_call(random),
+        8 => resolve_call(random),
+        9 => short_run_call(random),
         _ => check_call(random),
     }
 }

@@ -1,0 +1,225 @@
+//! Prints how two modules settle, line by line, with one of them swapped in the middle.
+//!
+//! The reference simulates the two modules and the wire. Then the program `drive` gets
+//! the events of each module and must give the same answers; the lines tell its answers.
+
+use compare::agreement::all_answers;
+use compare::call::Call;
+use compare::event::{LINK, SENT, WRITE};
+use compare::history::Step;
+use compare::joined::{Joined, Side, LEFT, RIGHT};
+use compare::random::Random;
+use reference::answer;
+use reference::device::registers::{
+    COMPLETE, CONTROL, ENABLE, LINK_LATCH, PAGE_RECEIVED, REMOTE_FAULT, RESET, STATUS,
+};
+use reference::device::State;
+use reference::resolve::RATES;
+use std::process::ExitCode;
+
+const NAMES: [&str; 2] = ["left", "right"];
+
+const MILLISECOND: u64 = 1_000_000;
+
+/// Modules that fit settle well within this time.
+const TIME_TO_SETTLE: u64 = 100 * MILLISECOND;
+
+/// How long the link is used before a head is swapped.
+const TIME_IN_USE: u64 = 2 * MILLISECOND;
+
+/// 1000BASE-T1 and 100BASE-T1, no role forced.
+const FIRST_HEADS: u64 = 1 << 23 | 1 << 21;
+/// 100BASE-T1 only, forced to be slave.
+const NEW_HEAD: u64 = 1 << 21 | 1 << 12;
+
+/// A line of the log.
+struct Line {
+    time: u64,
+    side: usize,
+    words: String,
+}
+
+fn main() -> ExitCode {
+    match log() {
+        Ok(lines) => {
+            lines.iter().for_each(|line| println!("{line}"));
+            ExitCode::SUCCESS
+        }
+        Err(words) => {
+            eprintln!("{words}");
+            ExitCode::FAILURE
+        }
+    }
+}
+
+/// All that is to be printed, or words that say why there is nothing.
+fn log() -> Result<Vec<String>, String> {
+    let joined = simulate()?;
+    let calls = [LEFT, RIGHT].map(|side| Call::run(&joined.sides[side].history.events()));
+    let answers = all_answers(&calls)?;
+    for side in [LEFT, RIGHT] {
+        compare_answers(&joined.sides[side], &answers[side])
+            .map_err(|words| format!("{}: {words}", NAMES[side]))?;
+    }
+    let mut log: Vec<String> = lines(&joined, &answers).iter().map(printed).collect();
+    log.push(String::new());
+    log.extend([LEFT, RIGHT].map(|side| summary(side, &answers[side])));
+    Ok(log)
+}
+
+fn printed(line: &Line) -> String {
+    let microseconds = line.time as f64 / 1000.0;
+    format!(
+        "{microseconds:>12.3}  {:5}  {}",
+        NAMES[line.side], line.words
+    )
+}
+
+/// Two modules settle; then the right one is swapped and they settle again.
+fn simulate() -> Result<Joined, String> {
+    let both_up = |joined: &Joined| joined.both_are(State::Up);
+    let mut joined = Joined::new(Random::new(2));
+    joined.enable_both(FIRST_HEADS, FIRST_HEADS);
+    settle(&mut joined, both_up)?;
+    joined.run_until(TIME_IN_USE, |_| false);
+    joined.swap_head(0, RIGHT, NEW_HEAD);
+    joined.run_until(MILLISECOND, |_| false);
+    settle(&mut joined, both_up)?;
+    Ok(joined)
+}
+
+/// Waits until both are up, and reads the status of both.
+fn settle(joined: &mut Joined, both_up: fn(&Joined) -> bool) -> Result<(), String> {
+    if !joined.run_until(TIME_TO_SETTLE, both_up) {
+        return Err("the two modules have not settled".to_string());
+    }
+    joined.read(LEFT, STATUS);
+    joined.read(RIGHT, STATUS);
+    joined.run_until(MILLISECOND, |_| false);
+    Ok(())
+}
+
+/// Fails unless `drive` has answered every event as the reference did.
+fn compare_answers(side: &Side, answers: &[u64]) -> Result<(), String> {
+    let expected: Vec<u64> = side.history.steps.iter().map(|step| step.answer).collect();
+    if expected == answers {
+        return Ok(());
+    }
+    let is_different = |place: &usize| expected.get(*place) != answers.get(*place);
+    let place = (0..).find(is_different).expect("the two differ");
+    Err(format!(
+        "event {place} is answered {:x?}, the reference has {:x?}",
+        answers.get(place),
+        expected.get(place)
+    ))
+}
+
+/// What both sides have to tell, by time.
+fn lines(joined: &Joined, answers: &[Vec<u64>]) -> Vec<Line> {
+    let mut lines = Vec::new();
+    for side in [LEFT, RIGHT] {
+        let told = &joined.sides[side];
+        for (place, step) in told.history.steps.iter().enumerate() {
+            let time = told.times[place];
+            let words = told_by_answer(step, answers[side][place]).or_else(|| told_by_event(step));
+            lines.extend(words.map(|words| Line { time, side, words }));
+        }
+    }
+    lines.sort_by_key(|line| line.time);
+    lines
+}
+
+/// What the answer says, in words.
+fn told_by_answer(step: &Step, answer: u64) -> Option<String> {
+    let word = format!("{:012x}", answer & 0xFFFF_FFFF_FFFF);
+    match answer::kind(answer) {
+        0 => None,
+        answer::GOOD_PAGE => Some(format!("hears page {word}{}", change(step))),
+        answer::ORDERED_PAGE => Some(format!("orders page {word}")),
+        answer::SETTLED => Some(format!("page sent; {}{}", settled(answer), change(step))),
+        answer::REGISTER_VALUE => Some(format!(
+            "reads 513: {:04x}{}",
+            answer as u16,
+            status(answer as u16)
+        )),
+        refusal => Some(format!("refuses with {refusal}{}", change(step))),
+    }
+}
+
+/// The bits of the status, in words.
+fn status(value: u16) -> String {
+    let names = [
+        (PAGE_RECEIVED, "page received"),
+        (COMPLETE, "complete"),
+        (REMOTE_FAULT, "remote fault"),
+        (LINK_LATCH, "link was up before"),
+    ];
+    let set = names.iter().filter(|(bit, _)| value & bit != 0);
+    let words: Vec<&str> = set.map(|(_, name)| *name).collect();
+    format!(" ({})", words.join(", "))
+}
+
+/// What the event says, in words, if something comes of it.
+fn told_by_event(step: &Step) -> Option<String> {
+    let value = step.event[2] as u16;
+    let words = match (step.event[0], step.before, step.after) {
+        (SENT, _, _) => "page sent",
+        (WRITE, _, _) if step.event[2] >> 16 == CONTROL => control(value),
+        (_, before, after) if before == after => return None,
+        (LINK, _, State::Up) => "link up",
+        (LINK, _, _) => "link down",
+        (_, State::Break, _) => "leaves Break and listens",
+        _ => "the link has not come up in time",
+    };
+    Some(format!("{words}{}", change(step)))
+}
+
+fn control(value: u16) -> &'static str {
+    match value {
+        RESET => "is taken out, another module is put in",
+        ENABLE => "is enabled",
+        _ => "is restarted",
+    }
+}
+
+/// The change of state, if there is one.
+fn change(step: &Step) -> String {
+    if step.before == step.after {
+        return String::new();
+    }
+    format!(" ({} to {})", name(step.before), name(step.after))
+}
+
+fn name(state: State) -> String {
+    match state {
+        State::CheckLink => "Check-link".to_string(),
+        other => format!("{other:?}"),
+    }
+}
+
+fn settled(answer: u64) -> String {
+    let rate = RATES
+        .iter()
+        .find(|rate| u64::from(rate.ability) == answer::settled_ability(answer));
+    let name = rate.map_or("an unknown rate", |rate| rate.name);
+    let role = if answer::settled_as_master(answer) {
+        "master"
+    } else {
+        "slave"
+    };
+    format!("settled on {name} as {role}")
+}
+
+fn summary(side: usize, answers: &[u64]) -> String {
+    let settlings: Vec<String> = answers
+        .iter()
+        .filter(|answer| answer::kind(**answer) == answer::SETTLED)
+        .map(|answer| settled(*answer))
+        .collect();
+    format!(
+        "{}: {} events, each answered by drive as by the reference; {}",
+        NAMES[side],
+        answers.len(),
+        settlings.join(", then ")
+    )
+}
