@@ -141,6 +141,34 @@ uint64_t maststep_write(uint32_t *list, size_t length, size_t place, uint32_t mo
  */
 uint64_t maststep_read(const uint32_t *list, size_t length, size_t place, uint32_t mode, size_t *next);
 
+/*
+ * A fresh device takes the events, three cells each: kind, clock reading (taken modulo 2^32), argument. The
+ * list of answers gets one answer for each event, in order, from its first entry on; its other entries are
+ * left as they were. Answers MASTSTEP_NUMBER with the number of events. Cells after the last whole event are
+ * not looked at.
+ *
+ *   kind 0  edge            argument not looked at
+ *   kind 1  tick            the draw, taken modulo 32
+ *   kind 2  page sent       argument not looked at
+ *   kind 3  link report     0 is down, anything else is up
+ *   kind 4  register read   the register's number
+ *   kind 5  register write  the register's number times 65536, plus the value
+ *   others  nothing is answered and nothing changes
+ *
+ * An event is answered with MASTSTEP_NOTHING (0), a refusal from 1 to 11 or, in the third Sent of Complete,
+ * any of the resolve call's; MASTSTEP_PAGE with a good page's word; MASTSTEP_ORDER with the word of the page
+ * that is ordered; MASTSTEP_SETTLED; or MASTSTEP_VALUE with a register's value.
+ *
+ * Refused: MASTSTEP_ROOM (12) if there are fewer entries than events, and the whole list is then left as it
+ * was.
+ *
+ * The caller sees to it that events points to cells cells in a row and answers to room entries in a row,
+ * aligned as uint64_t is, none of them in both, and that nothing else writes the events, or reads or writes the
+ * answers, during the call. With cells or room 0 nothing is read or written through that pointer, and it may be
+ * a null pointer.
+ */
+uint64_t maststep_run(const uint64_t *events, size_t cells, uint64_t *answers, size_t room);
+
 #ifdef __cplusplus
 }
 #endif

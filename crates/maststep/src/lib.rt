@@ -6,6 +6,7 @@ ghost use Rattle.resolve.specs.Resolving.{resolveSays};
 ghost use Rattle.gap.specs.Gaps.{judged};
 ghost use Rattle.line.specs.Writing.{writeSays, writeLeaves};
 ghost use Rattle.reading.specs.Captures.{readOf};
+ghost use Rattle.device.specs.Runs.{runSays, runLeaves};
 ghost use Rattle.maststep.specs.NextPlace.{nextLeft};
 
 // The check bits of a word, or 13.
@@ -68,4 +69,13 @@ pub extern "C" fn maststep_read(list: &[u32], place: usize, mode: u32, next: &mu
     }
     *next = outcome.next;
     packed
+}
+
+// A fresh device takes the events, three cells each, and the list gets one answer for each: their number, or 12.
+#[no_mangle]
+pub extern "C" fn maststep_run(events: &[u64], answers: &mut [u64]) -> u64
+    ensures says { λ r. ⌜ r ≡ packed (runSays (now (events .entry)) (now (answers .entry))) ⌝ }
+    ensures leaves { λ _. ⌜ now (answers .exit) ≡ runLeaves (now (events .entry)) (now (answers .entry)) ⌝ }
+{
+    device::run(events, answers).packed()
 }

@@ -1,0 +1,12 @@
+use mathlib.Core.Path.{ap, _∙_}
+use borrow.Author.Needs.{needs}
+use Rattle.refusal.specs.Answers.{packed}
+use Rattle.maststep.proofs.maststep_run.Statement.{statement}
+use Rattle.maststep.proofs.maststep_run.Tie as tie
+
+pub maststep-run-spec : {M : Type 1} → statement M
+maststep-run-spec =
+    tie.close
+    (tie.spec
+    (λ c κs. search needs) (λ c κs. search needs) (λ c. search needs)
+    (λ c. (c .packed .ensures ∙ ap packed (c .before .before .before .run .ensures .0), c .before .before .before .run .ensures .1)))
