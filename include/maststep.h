@@ -20,22 +20,28 @@ extern "C" {
 
 /* The kinds of answer. 1 to 27 are refusals; a refusal's value is 0. */
 enum {
-    MASTSTEP_NOTHING = 0,   /* no answer; the value is 0 */
-    MASTSTEP_GAP = 1,       /* an attempt ended: a gap was not what the pattern of a page asks there */
-    MASTSTEP_CUT = 2,       /* an attempt ended: a quiet gap, or the capture's end, came before its last transition */
-    MASTSTEP_CHECK = 3,     /* an attempt ended: it had all transitions, but the check bits do not agree */
-    MASTSTEP_SELECTOR = 4,  /* refused: a word's selector is not 1 */
-    MASTSTEP_TIE = 5,       /* refused: the two words have the same nonce */
-    MASTSTEP_NONE = 8,      /* refused: the two words have no rate in common */
-    MASTSTEP_ROLES = 9,     /* refused: the two words insist on the same role */
-    MASTSTEP_ROOM = 12,     /* refused: the place is past the end, or too few entries follow it */
-    MASTSTEP_WIDE = 13,     /* refused: the word is 2^48 or more */
-    MASTSTEP_MODE = 14,     /* refused: the mode is neither 0 nor 1 */
-    MASTSTEP_PAGE = 0x80,   /* a good page was read; the value is its word */
-    MASTSTEP_SETTLED = 0x82, /* rate and role are settled; the value has both: see maststep_resolve */
-    MASTSTEP_NUMBER = 0x84, /* the value is a number: check bits, a count of readings, positions of a gap */
-    MASTSTEP_QUIET = 0x85,  /* the gap is quiet; the value is 0 */
-    MASTSTEP_UNFIT = 0x86   /* the gap is unfit; the value is 0 */
+    MASTSTEP_NOTHING = 0,     /* no answer; the value is 0 */
+    MASTSTEP_GAP = 1,         /* an attempt ended: a gap was not what the pattern of a page asks there */
+    MASTSTEP_CUT = 2,         /* an attempt ended: a quiet gap, or the capture's end, came before its last transition */
+    MASTSTEP_CHECK = 3,       /* an attempt ended: it had all transitions, but the check bits do not agree */
+    MASTSTEP_SELECTOR = 4,    /* refused: a word's selector is not 1 */
+    MASTSTEP_TIE = 5,         /* refused: the two words have the same nonce */
+    MASTSTEP_CHANGED = 6,     /* refused: the partner's page is another than the one held */
+    MASTSTEP_ECHO = 7,        /* refused: the partner echoes a nonce that is not the own one */
+    MASTSTEP_NONE = 8,        /* refused: the two words have no rate in common */
+    MASTSTEP_ROLES = 9,       /* refused: the two words insist on the same role */
+    MASTSTEP_REGISTER = 10,   /* refused: there is no such register */
+    MASTSTEP_TURN = 11,       /* refused: no page is out that could have been sent */
+    MASTSTEP_ROOM = 12,       /* refused: the place is past the end, or too few entries follow it */
+    MASTSTEP_WIDE = 13,       /* refused: the word is 2^48 or more */
+    MASTSTEP_MODE = 14,       /* refused: the mode is neither 0 nor 1 */
+    MASTSTEP_PAGE = 0x80,     /* a good page was read; the value is its word */
+    MASTSTEP_ORDER = 0x81,    /* a page is to be sent; the value is its word */
+    MASTSTEP_SETTLED = 0x82,  /* rate and role are settled; the value has both: see maststep_resolve */
+    MASTSTEP_VALUE = 0x83,    /* the value is a register's */
+    MASTSTEP_NUMBER = 0x84,   /* the value is a number: check bits, a count, positions of a gap */
+    MASTSTEP_QUIET = 0x85,    /* the gap is quiet; the value is 0 */
+    MASTSTEP_UNFIT = 0x86     /* the gap is unfit; the value is 0 */
 };
 
 /* The modes of the line. */
