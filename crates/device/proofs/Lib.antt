@@ -1,1 +1,2 @@
 pub mod RunLoop
+pub mod DeviceExamples

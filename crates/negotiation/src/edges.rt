@@ -43,14 +43,15 @@ fn hold(device: Device, word: u64, reading: u32) -> Device
     talk.heard = true;
     talk.mark = reading;
     let advertised = device.advertised;
-    let partner = device.partner;
+    // 7.517-7.519 are loaded only when the partner has echoed.
+    let unloaded = device.partner;
     let flags = device.flags;
     let outcome = device.outcome;
     let reader = device.reader;
     Device {
         state: State::Ack,
         advertised: advertised,
-        partner: partner,
+        partner: unloaded,
         flags: flags,
         talk: talk,
         outcome: outcome,

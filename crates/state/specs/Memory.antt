@@ -56,32 +56,19 @@ abbrev pub noTalk : ℕ → Talk
 noTalk reading =
     record { own = 0; held = 0; out = false; count = 0; heard = false; mark = reading; timer = reading; latch = false }
 
+-- A device that knows no link, with what outlives links.
+abbrev pub withoutLink : State → PageRegisters → Flags → ℕ → Device
+withoutLink state advertised flags reading =
+    record { state = state; advertised = advertised; partner = noPage; flags = flags; talk = noTalk reading; outcome = Nothing; reader = Fresh }
+
 -- "fresh (Off, all zero)"
 abbrev pub freshDevice : Device
-freshDevice =
-    record {
-      state = Off;
-      advertised = noPage;
-      partner = noPage;
-      flags = record { received = false; fault = false };
-      talk = noTalk 0;
-      outcome = Nothing;
-      reader = Fresh;
-    }
+freshDevice = withoutLink Off noPage (record { received = false; fault = false }) 0
 
 -- "entering it forgets reader, own page, held page, page out, count, outcome and 7.517-7.519 (then zero), clears the link latch, starts the break
 -- timer. Entering Off forgets and clears the same, and starts no timer." 7.514-7.516, Page received and Remote fault are not among them.
 abbrev pub entered : State → ℕ → Device → Device
-entered state reading d =
-    record {
-      state = state;
-      advertised = d .advertised;
-      partner = noPage;
-      flags = d .flags;
-      talk = noTalk reading;
-      outcome = Nothing;
-      reader = Fresh;
-    }
+entered state reading d = withoutLink state (d .advertised) (d .flags) reading
 
 abbrev pub intoBreak : ℕ → Device → Device
 intoBreak reading d = entered Break reading d

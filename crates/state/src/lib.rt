@@ -1,6 +1,6 @@
 // What a device remembers, and what is left of it where it goes into Break or Off.
 ghost use mathlib.Core.Path.{_≡_};
-ghost use Rattle.state.specs.Memory.{noPage, noTalk, freshDevice, entered};
+ghost use Rattle.state.specs.Memory.{noPage, noTalk, withoutLink, freshDevice, entered};
 use reader::Reader;
 use refusal::Answer;
 
@@ -86,32 +86,10 @@ fn no_talk(reading: u32) -> Talk
     }
 }
 
-impl Device {
-    // A device that no event has reached.
-    pub fn fresh() -> Self
-        ensures { λ r. ⌜ r ≡ freshDevice ⌝ }
-    {
-        Device {
-            state: State::Off,
-            advertised: no_page(),
-            partner: no_page(),
-            flags: Flags {
-                received: false,
-                fault: false,
-            },
-            talk: no_talk(0),
-            outcome: Answer::Nothing,
-            reader: Reader::Fresh,
-        }
-    }
-}
-
-// The device in a state that forgets the link: Break or Off. Everything of the link is made anew here, so nothing can be left over.
-pub fn enter(device: Device, state: State, reading: u32) -> Device
-    ensures { λ r. ⌜ r ≡ entered state reading device ⌝ }
+// A device that knows no link, in a state and with what outlives links. Everything of a link is made anew here, so nothing can be left over.
+fn without_link(state: State, advertised: PageRegisters, flags: Flags, reading: u32) -> Device
+    ensures { λ r. ⌜ r ≡ withoutLink state advertised flags reading ⌝ }
 {
-    let advertised = device.advertised;
-    let flags = device.flags;
     Device {
         state: state,
         advertised: advertised,
@@ -121,4 +99,26 @@ pub fn enter(device: Device, state: State, reading: u32) -> Device
         outcome: Answer::Nothing,
         reader: Reader::Fresh,
     }
+}
+
+impl Device {
+    // A device that no event has reached.
+    pub fn fresh() -> Self
+        ensures { λ r. ⌜ r ≡ freshDevice ⌝ }
+    {
+        let flags = Flags {
+            received: false,
+            fault: false,
+        };
+        without_link(State::Off, no_page(), flags, 0)
+    }
+}
+
+// The device in a state that forgets the link: Break or Off.
+pub fn enter(device: Device, state: State, reading: u32) -> Device
+    ensures { λ r. ⌜ r ≡ entered state reading device ⌝ }
+{
+    let advertised = device.advertised;
+    let flags = device.flags;
+    without_link(state, advertised, flags, reading)
 }

@@ -6,5 +6,5 @@ pub fresh-spec : {M : Type 1} → statement M
 fresh-spec =
     tie.close
     (tie.spec
-    (λ c κs. search needs) (λ c κs. search needs) (λ c κs. search needs)
-    (λ c. simp (c .no-talk .ensures, c .before .no-page2 .ensures, c .before .before .no-page .ensures)))
+    (λ c κs. search needs) (λ c κs. search needs)
+    (λ c. simp (c .without-link .ensures, c .before .no-page .ensures)))
