@@ -10,8 +10,8 @@ use Rattle.device.specs.declared.events.Event.{Event}
 use Rattle.device.specs.declared.events.Event.the-variants.{Edge, Tick, Sent, Report, Read, Write, Unnamed}
 use Rattle.device.specs.Steps.{saysTo}
 
--- An event by its kind, its clock reading (taken modulo 2^32) and its argument: for a tick the draw; for a report, 0 is down; for a read the
--- register's number; for a write that number times 2^16, plus the value.
+-- An event by its kind, its clock reading (taken modulo 2^32) and its argument: for a tick the draw; for a report, 0 is down and anything else up; for a read
+-- the register's number; for a write that number times 2^16, plus the value. A kind of 6 or more names no event.
 unfoldable pub eventOf : ℕ → ℕ → ℕ → Event
 eventOf kind clock argument =
     let reading = clock % 2 ^ 32 in
@@ -33,7 +33,7 @@ eventsOf (kind ∷ clock ∷ argument ∷ rest) = eventOf kind clock argument �
 abbrev pub answersTo : List ℕ → List ℕ
 answersTo cells = map packed (saysTo freshDevice (eventsOf cells))
 
--- Row 12 of the refusals, Room: there are fewer entries than events.
+-- Refusal 12, Room, is given "if there is no room for them": there are fewer entries than events.
 abbrev pub hasRoom : List ℕ → List ℕ → Bool
 hasRoom cells list = leb (length (eventsOf cells)) (length list)
 

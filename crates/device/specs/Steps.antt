@@ -16,7 +16,7 @@ use Rattle.negotiation.specs.Reports.{reportDue}
 use Rattle.device.specs.declared.events.Event.{Event}
 use Rattle.device.specs.declared.events.Event.the-variants.{Edge, Tick, Sent, Report, Read, Write, Unnamed}
 
--- One step: what an event has to bring, over a profile's numbers and an ordered list of abilities. "What is not named answers nothing and alters
+-- One step: what an event has to bring, over a profile's numbers and an ordered list of abilities. (The inhibit numbers are no part of a profile.) "What is not named answers nothing and alters
 -- nothing."
 unfoldable pub stepOver : Profile → List ℕ → Event → Device → Due
 stepOver p order (Edge reading) d = edgeDue p reading d

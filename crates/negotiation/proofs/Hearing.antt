@@ -16,7 +16,7 @@ use Rattle.state.specs.declared.Device.{Device}
 use Rattle.state.specs.declared.Reply.{Reply}
 use Rattle.state.specs.Memory.{Due, Meets, due, withReader}
 use Rattle.state.proofs.Dues.{as-due}
-use Rattle.negotiation.specs.Edges.{pageIn, heardOf}
+use Rattle.negotiation.specs.Edges.{pageIn, listened}
 
 -- What an edge brings is what the code's step says and holds.
 brought : {s : Step} {b : Brings} → Gives s b → b ≡ bring (said (s .answer)) (s .reader)
@@ -25,22 +25,22 @@ brought {s} {b} g =
 
 -- A good page: the state decides, over the device whose reader has moved.
 pub page-heard : {r : Reply} {s : Step} {b : Brings} (next d : Device) (word reading : ℕ) → Meets r (pageIn (next .state) word reading next)
-    → next ≡ withReader (s .reader) d → Gives s b → s .answer ≡ Page word → Meets r (heardOf b reading d)
-unfolding heardOf
+    → next ≡ withReader (s .reader) d → Gives s b → s .answer ≡ Page word → Meets r (listened b reading d)
+unfolding listened
 page-heard {r} {s} {b} next d word reading met moved g page =
     as-due met
     (ap (λ (x : Device). pageIn (x .state) word reading x) moved
-    ∙ (ap (λ (a : Answer). heardOf (bring (said a) (s .reader)) reading d) (sym page) ∙ ap (λ (x : Brings). heardOf x reading d) (sym (brought g))))
+    ∙ (ap (λ (a : Answer). listened (bring (said a) (s .reader)) reading d) (sym page) ∙ ap (λ (x : Brings). listened x reading d) (sym (brought g))))
 
 -- Anything else is answered as it is.
 pub other-heard : {r : Reply} {s : Step} {b : Brings} {a : Answer} {next : Device} (d : Device) (reading : ℕ) → Meets r (due (said a) next)
-    → next ≡ withReader (s .reader) d → Gives s b → s .answer ≡ a → eqb (said a .kind) 0x80 ≡ false → Meets r (heardOf b reading d)
-unfolding heardOf
+    → next ≡ withReader (s .reader) d → Gives s b → s .answer ≡ a → eqb (said a .kind) 0x80 ≡ false → Meets r (listened b reading d)
+unfolding listened
 other-heard {r} {s} {b} {a} {next} d reading met moved g same other =
     as-due met
     (ap (due (said a)) moved
     ∙ (sym (ap (λ (t : Bool). cond t (pageIn (d .state) (said a .value) reading (withReader (s .reader) d)) (due (said a) (withReader (s .reader) d))) other)
-    ∙ (ap (λ (x : Answer). heardOf (bring (said x) (s .reader)) reading d) (sym same) ∙ ap (λ (x : Brings). heardOf x reading d) (sym (brought g)))))
+    ∙ (ap (λ (x : Answer). listened (bring (said x) (s .reader)) reading d) (sym same) ∙ ap (λ (x : Brings). listened x reading d) (sym (brought g)))))
 
 -- No refusal's number is that of a good page.
 refusal-no-page : (refusal : Refusal) → eqb (numberOf refusal) 0x80 ≡ false
@@ -62,5 +62,5 @@ refusal-no-page Odd = refl
 
 -- So a refusal is answered as it is.
 pub refusal-heard : {r : Reply} {s : Step} {b : Brings} {next : Device} (refusal : Refusal) (d : Device) (reading : ℕ) → Meets r (due (said (Refused refusal)) next)
-    → next ≡ withReader (s .reader) d → Gives s b → s .answer ≡ Refused refusal → Meets r (heardOf b reading d)
+    → next ≡ withReader (s .reader) d → Gives s b → s .answer ≡ Refused refusal → Meets r (listened b reading d)
 refusal-heard refusal d reading met moved g same = other-heard d reading met moved g same (refusal-no-page refusal)

@@ -1,6 +1,6 @@
 pub mod Timers
 pub mod Pages
-pub mod Memories
+pub mod Changes
 pub mod Edges
 pub mod Ticks
 pub mod Sending

@@ -1,6 +1,6 @@
 -- 01, "The negotiation (LSM)": the tick event, with its draw.
 use Prim.Native.Nat.{ℕ}
-use mathlib.Core.Bool.{Bool, true, false, cond}
+use mathlib.Core.Bool.{Bool, true, false, cond, not, _&&_}
 use lib.Dec.{ltb}
 use Rattle.refusal.specs.Answers.{nothing, pageOrdered}
 use Rattle.gap.specs.Clock.{timeBetween}
@@ -14,7 +14,7 @@ use Rattle.state.specs.Memory.{Due, due, intoBreak, withState, withTalk, withRe
 use Rattle.negotiation.specs.declared.profile.Profile.{Profile}
 use Rattle.negotiation.specs.Timers.{runOut, inhibitOf}
 use Rattle.negotiation.specs.Pages.{wordOf, ownPage, echoingPage}
-use Rattle.negotiation.specs.Memories.{marking, owning, sending}
+use Rattle.negotiation.specs.Changes.{marking, owning, sending}
 
 -- "When the timer is out: own page is the advertisement ..; reader fresh; mark "waiting" now; to Ability."
 abbrev pub leavesBreak : ℕ → ℕ → Device → Device
@@ -32,8 +32,8 @@ holdsBack quiet (Dropping last) reading = false
 -- waiting"
 unfoldable pub mayOrder : Profile → ℕ → Talk → Reader → Bool
 mayOrder p reading t reader =
-    cond (t .out) false
-    (cond (holdsBack (p .mode .quiet) reader reading) false (runOut (cond (t .heard) (p .silent) (p .wait)) (t .mark) reading))
+    not (t .out)
+    && (not (holdsBack (p .mode .quiet) reader reading) && runOut (cond (t .heard) (p .silent) (p .wait)) (t .mark) reading)
 
 -- "a tick orders the own page", so it is out.
 unfoldable pub orders : Profile → ℕ → ℕ → Device → Due
@@ -41,17 +41,17 @@ orders p reading word d =
     cond (mayOrder p reading (d .talk) (d .reader)) (due (pageOrdered word) (withTalk (sending true (d .talk)) d)) (due nothing d)
 
 -- A device that goes elsewhere when a timer is out, and stays as it is until then.
-abbrev pub onceOut : Bool → Device → Device → Due
-onceOut isOut next d = due nothing (cond isOut next d)
+abbrev pub onceRunOut : Bool → Device → Device → Due
+onceRunOut isOut next d = due nothing (cond isOut next d)
 
--- By state. "Check-link: .. Timer out: to Break." In Off and Up a tick is not named.
+-- By state. "Check-link: .. Timer out: to Break." In Off a tick is ignored, in Up it is not named.
 abbrev pub tickIn : State → Profile → ℕ → ℕ → Device → Due
 tickIn Off p reading draw d = due nothing d
-tickIn Break p reading draw d = onceOut (runOut (p .pause) (d .talk .timer) reading) (leavesBreak reading draw d) d
+tickIn Break p reading draw d = onceRunOut (runOut (p .breaking) (d .talk .timer) reading) (leavesBreak reading draw d) d
 tickIn Ability p reading draw d = orders p reading (d .talk .own) d
 tickIn Ack p reading draw d = orders p reading (echoingPage (d .talk .own) (d .talk .held)) d
 tickIn Complete p reading draw d = orders p reading (echoingPage (d .talk .own) (d .talk .held)) d
-tickIn CheckLink p reading draw d = onceOut (runOut (inhibitOf (d .outcome)) (d .talk .timer) reading) (intoBreak reading d) d
+tickIn CheckLink p reading draw d = onceRunOut (runOut (inhibitOf (d .outcome)) (d .talk .timer) reading) (intoBreak reading d) d
 tickIn Up p reading draw d = due nothing d
 
 unfoldable pub tickDue : Profile → ℕ → ℕ → Device → Due

@@ -14,9 +14,9 @@ use Rattle.negotiation.specs.declared.profile.Profile.{Profile}
 abbrev pub runOut : ℕ → ℕ → ℕ → Bool
 runOut number start reading = leb number (timeBetween reading start)
 
--- "Numbers in ns: break 8 000 000 (house); silent 33 000; wait 350 000", with the numbers of the low-speed mode. The break timer's is `pause` here.
+-- "Numbers in ns: break 8 000 000 (house); silent 33 000; wait 350 000", with the numbers of the low-speed mode. The break timer's is `breaking` here.
 abbrev pub lowSpeed : Profile
-lowSpeed = record { mode = lsmMode; pause = 8000000; silent = 33000; wait = 350000 }
+lowSpeed = record { mode = lsmMode; breaking = 8000000; silent = 33000; wait = 350000 }
 
 -- "inhibit 97 500 000 (also without a rate), for 10BASE-T1S 402 000 000, for 10BASE-T1L 3 060 000 000": 10BASE-T1S is A1 (full) and A22 (half), and
 -- 10BASE-T1L is A9.

@@ -4,9 +4,9 @@ ghost use mathlib.Core.Bool.{true};
 ghost use Rattle.reader.specs.Reading.{edgeOf};
 ghost use Rattle.state.specs.declared.State.the-variants.{Ack};
 ghost use Rattle.state.specs.Memory.{Meets, withState, withTalk, withReader};
-ghost use Rattle.negotiation.specs.Memories.{marking, holding};
+ghost use Rattle.negotiation.specs.Changes.{marking, holding};
 ghost use Rattle.negotiation.specs.Timers.{lowSpeed};
-ghost use Rattle.negotiation.specs.Edges.{heardAt, pageInAbility, flagsBy, completed, pageInAck, pageIn, heardOf, edgeDue};
+ghost use Rattle.negotiation.specs.Edges.{heardAt, pageInAbility, flagsBy, intoComplete, pageInAck, pageIn, listened, edgeDue};
 use crate::pages::beyond_ack_and_echo;
 use crate::pages::registers_of;
 use crate::profile::Profile;
@@ -22,7 +22,7 @@ use state::Device;
 use state::Flags;
 use state::Reply;
 use state::State;
-use state::enter;
+use state::enter_break;
 
 // The mark is "heard", now.
 fn heard_at(device: Device, reading: u32) -> Device
@@ -64,11 +64,8 @@ fn page_in_ability(device: Device, word: u64, reading: u32) -> Reply
     ensures { λ r. ⌜ Meets r (pageInAbility word reading device) ⌝ }
 {
     if get(word, Field::Selector) == 1 {
-        if get(word, Field::Nonce) == get(device.talk.own, Field::Nonce) {
-            return answered(
-                Answer::Refused(Refusal::Tie),
-                enter(device, State::Break, reading),
-            );
+        if get(device.talk.own, Field::Nonce) == get(word, Field::Nonce) {
+            return answered(Answer::Refused(Refusal::Tie), enter_break(device, reading));
         }
         return answered(Answer::Page(word), hold(device, word, reading));
     }
@@ -93,7 +90,7 @@ fn flags_by(word: u64, flags: Flags) -> Flags
 
 // The partner has answered: its page goes into the registers, and the device to Complete.
 fn complete(device: Device, word: u64, reading: u32) -> Device
-    ensures { λ r. ⌜ r ≡ completed word reading device ⌝ }
+    ensures { λ r. ⌜ r ≡ intoComplete word reading device ⌝ }
 {
     let mut talk = device.talk;
     talk.count = 0;
@@ -119,20 +116,17 @@ fn page_in_ack(device: Device, word: u64, reading: u32) -> Reply
     ensures { λ r. ⌜ Meets r (pageInAck word reading device) ⌝ }
 {
     if beyond_ack_and_echo(word) == beyond_ack_and_echo(device.talk.held) {
-        if get(word, Field::Ack) == 1 {
-            if get(word, Field::EchoedNonce) == get(device.talk.own, Field::Nonce) {
-                return answered(Answer::Page(word), complete(device, word, reading));
-            }
-            return answered(
-                Answer::Refused(Refusal::Echo),
-                enter(device, State::Break, reading),
-            );
+        if get(word, Field::Ack) == 0 {
+            return answered(Answer::Page(word), heard_at(device, reading));
         }
-        return answered(Answer::Page(word), heard_at(device, reading));
+        if get(word, Field::EchoedNonce) == get(device.talk.own, Field::Nonce) {
+            return answered(Answer::Page(word), complete(device, word, reading));
+        }
+        return answered(Answer::Refused(Refusal::Echo), enter_break(device, reading));
     }
     answered(
         Answer::Refused(Refusal::Changed),
-        enter(device, State::Break, reading),
+        enter_break(device, reading),
     )
 }
 
@@ -175,7 +169,7 @@ fn with_reader(device: Device, reader: Reader) -> Device
 
 // The reader takes the edge.
 fn listen(profile: Profile, device: Device, reading: u32) -> Reply
-    ensures { λ r. ⌜ Meets r (heardOf (edgeOf (profile .mode) (device .reader) reading) reading device) ⌝ }
+    ensures { λ r. ⌜ Meets r (listened (edgeOf (profile .mode) (device .reader) reading) reading device) ⌝ }
 {
     let mode = profile.mode;
     let reader = device.reader;

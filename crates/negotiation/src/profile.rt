@@ -8,7 +8,7 @@ use refusal::Answer;
 // The line mode's numbers, and those of the break timer, silent and wait, in ns.
 pub struct Profile {
     pub mode: LineMode,
-    pub pause: u32,
+    pub breaking: u32,
     pub silent: u32,
     pub wait: u32,
 }
@@ -19,7 +19,7 @@ pub(crate) fn low_speed() -> Profile
 {
     Profile {
         mode: LineMode::lsm(),
-        pause: 8000000,
+        breaking: 8000000,
         silent: 33000,
         wait: 350000,
     }

@@ -2,7 +2,7 @@
 ghost use mathlib.Core.Path.{_≡_};
 ghost use Rattle.refusal.specs.Answers.{said};
 ghost use Rattle.state.specs.Memory.{Meets, due};
-ghost use Rattle.negotiation.specs.Memories.{isTalking};
+ghost use Rattle.negotiation.specs.Changes.{isTalking};
 use refusal::Answer;
 use state::Device;
 use state::Reply;

@@ -9,7 +9,7 @@ use refusal::Answer;
 use state::Device;
 use state::Reply;
 use state::State;
-use state::enter;
+use state::enter_break;
 
 // The link is up. The latch of 7.513 stays as it was: only a read sets it.
 fn come_up(device: Device) -> Device
@@ -53,7 +53,7 @@ fn report_in_up(device: Device, up: bool, reading: u32) -> Device
     if up {
         return device;
     }
-    enter(device, State::Break, reading)
+    enter_break(device, reading)
 }
 
 // The event "link report".

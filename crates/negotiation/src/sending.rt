@@ -3,7 +3,7 @@ ghost use mathlib.Core.Path.{_≡_};
 ghost use Rattle.resolve.specs.Rates.{rateOrder};
 ghost use Rattle.state.specs.Memory.{Meets, due};
 ghost use Rattle.refusal.specs.Answers.{nothing};
-ghost use Rattle.negotiation.specs.Sending.{ended, settled, counted, ifOut, sentDue};
+ghost use Rattle.negotiation.specs.Sending.{ended, resolved, counted, ifOut, sentDue};
 use crate::replies::answered;
 use refusal::Answer;
 use refusal::Refusal;
@@ -23,9 +23,9 @@ fn end(device: Device, reading: u32) -> Device
     after
 }
 
-// The third page: rate and role are settled, or refused, and the device goes to Check-link.
+// The third page: rate and role are resolved, or refused, and the device goes to Check-link.
 fn settle(device: Device, reading: u32) -> Reply
-    ensures { λ r. ⌜ Meets r (settled rateOrder reading device) ⌝ }
+    ensures { λ r. ⌜ Meets r (resolved rateOrder reading device) ⌝ }
 {
     let outcome = resolve(device.talk.own, device.talk.held);
     let mut talk = device.talk;

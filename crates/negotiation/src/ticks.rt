@@ -18,7 +18,7 @@ use refusal::Answer;
 use state::Device;
 use state::Reply;
 use state::State;
-use state::enter;
+use state::enter_break;
 
 // The break is over: the own page is made, and the device goes to Ability.
 fn leave_break(device: Device, reading: u32, draw: u64) -> Device
@@ -88,7 +88,7 @@ fn order(profile: Profile, device: Device, word: u64, reading: u32) -> Reply
 fn tick_in_break(profile: Profile, device: Device, reading: u32, draw: u64) -> Reply
     ensures { λ r. ⌜ Meets r (tickIn Break profile reading draw device) ⌝ }
 {
-    if run_out(profile.pause, device.talk.timer, reading) {
+    if run_out(profile.breaking, device.talk.timer, reading) {
         return answered(Answer::Nothing, leave_break(device, reading, draw));
     }
     answered(Answer::Nothing, device)
@@ -100,7 +100,7 @@ fn tick_in_check_link(profile: Profile, device: Device, reading: u32, draw: u64)
 {
     let outcome = device.outcome;
     if run_out(inhibit_of(outcome), device.talk.timer, reading) {
-        return answered(Answer::Nothing, enter(device, State::Break, reading));
+        return answered(Answer::Nothing, enter_break(device, reading));
     }
     answered(Answer::Nothing, device)
 }

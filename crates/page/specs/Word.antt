@@ -8,6 +8,10 @@ use lib.Dec.{eqb, ltb}
 abbrev pub odd : ℕ → Bool
 odd n = eqb (n % 2) 1
 
+-- Whether bit n of a number is one, the lowest bit being bit 0.
+abbrev pub hasBit : ℕ → ℕ → Bool
+hasBit number n = odd (number / 2 ^ n)
+
 -- The first n bits of a number, lowest first: D0, D1, ... Bits further up are not looked at.
 abbrev pub bitsOf : ℕ → ℕ → List Bool
 bitsOf zero w = []

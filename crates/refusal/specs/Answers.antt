@@ -63,6 +63,6 @@ said Quiet = gapQuiet
 said Unfit = gapUnfit
 
 -- The same as one number of 64 bits, the kind in the top byte and the value in the 56 bits below it; a value of 2^56 or more,
--- which no call answers, loses its upper bits.
+-- which no call answers on a record that calls have made, loses its upper bits.
 abbrev pub packed : Said → ℕ
 packed s = s .kind * 2 ^ 56 + s .value % 2 ^ 56

@@ -1,13 +1,13 @@
 -- 01, "Registers (MMD 7)".
-use Prim.Native.Nat.{ℕ, _+_, _*_, _/_, _%_, _^_}
-use mathlib.Core.Bool.{Bool, true, false, cond}
+use Prim.Native.Nat.{ℕ, _+_, _^_}
+use mathlib.Core.Bool.{Bool, cond, _||_}
 use lib.Dec.{eqb}
-use Rattle.refusal.specs.Answers.{Said, nothing, refused, registerValue}
+use Rattle.refusal.specs.Answers.{nothing, refused, registerValue}
+use Rattle.page.specs.Word.{hasBit}
 use Rattle.state.specs.declared.PageRegisters.{PageRegisters}
-use Rattle.state.specs.declared.Flags.{Flags}
 use Rattle.state.specs.declared.Talk.{Talk}
 use Rattle.state.specs.declared.Device.{Device}
-use Rattle.state.specs.Memory.{Due, due, isOff, isUp, freshDevice, intoBreak, intoOff, withAdvertised, withFlags, withTalk}
+use Rattle.state.specs.Memory.{Due, due, isOff, isUp, noFlags, freshDevice, intoBreak, intoOff, withAdvertised, withFlags, withTalk}
 use Rattle.registers.specs.declared.Register.{Register}
 use Rattle.registers.specs.declared.Register.the-variants.{Control, Status, AdvertisedLow, AdvertisedMiddle, AdvertisedHigh, PartnerLow, PartnerMiddle, PartnerHigh, Missing}
 
@@ -23,11 +23,7 @@ registerOf number =
     (cond (eqb number 518) PartnerMiddle
     (cond (eqb number 519) PartnerHigh Missing)))))))
 
--- Bit n of a value, as a test,
-abbrev pub hasBit : ℕ → ℕ → Bool
-hasBit n value = eqb (value / 2 ^ n % 2) 1
-
--- and a value that has bit n alone, or is 0.
+-- A value that has bit n alone, or is 0.
 abbrev pub bitIf : ℕ → Bool → ℕ
 bitIf n test = cond test (2 ^ n) 0
 
@@ -42,14 +38,11 @@ statusBits received up fault latch = bitIf 6 received + (bitIf 5 up + (bitIf 4 f
 abbrev pub statusValue : Device → ℕ
 statusValue d = statusBits (d .flags .received) (isUp (d .state)) (d .flags .fault) (d .talk .latch)
 
--- "A read answers, then clears 6 and 4 and sets the latch to "state is Up"."
-abbrev pub noFlags : Flags
-noFlags = record { received = false; fault = false }
-
 abbrev pub withLatch : Bool → Talk → Talk
 withLatch latch t =
     record { own = t .own; held = t .held; out = t .out; count = t .count; heard = t .heard; mark = t .mark; timer = t .timer; latch = latch }
 
+-- "A read answers, then clears 6 and 4 and sets the latch to "state is Up"."
 abbrev pub statusRead : Device → Device
 statusRead d = withFlags noFlags (withTalk (withLatch (isUp (d .state)) (d .talk)) d)
 
@@ -72,10 +65,8 @@ readDue number d = readAt (registerOf number) d
 -- goes to Break if bit 9 is set or it was off." Else it stays as it was.
 unfoldable pub commanded : ℕ → ℕ → Device → Device
 commanded value reading d =
-    cond (hasBit 15 value) freshDevice
-    (cond (hasBit 12 value)
-    (cond (hasBit 9 value) (intoBreak reading d) (cond (isOff (d .state)) (intoBreak reading d) d))
-    (intoOff d))
+    cond (hasBit value 15) freshDevice
+    (cond (hasBit value 12) (cond (hasBit value 9 || isOff (d .state)) (intoBreak reading d) d) (intoOff d))
 
 -- The advertised registers with one of them written.
 abbrev pub lowWritten : ℕ → PageRegisters → PageRegisters

@@ -11,7 +11,8 @@ use refusal::Refusal;
 use state::Device;
 use state::Reply;
 use state::State;
-use state::enter;
+use state::enter_break;
+use state::enter_off;
 
 // The register that a number names.
 pub(crate) enum Register {
@@ -208,15 +209,15 @@ fn command(device: Device, value: u16, reading: u32) -> Device
     }
     if has_bit(value, 4096) {
         if has_bit(value, 512) {
-            return enter(device, State::Break, reading);
+            return enter_break(device, reading);
         }
         let state = device.state;
         if is_off(state) {
-            return enter(device, State::Break, reading);
+            return enter_break(device, reading);
         }
         return device;
     }
-    enter(device, State::Off, 0)
+    enter_off(device)
 }
 
 // The device with one of 514-516 written.

@@ -17,7 +17,7 @@ use Rattle.resolve.specs.declared.rates.Rate.the-variants.{Ability, Miss
 use Rattle.resolve.specs.declared.roles.Role.{Role}
 use Rattle.resolve.specs.declared.roles.Role.the-variants.{Master, Slave, Fault}
 use Rattle.resolve.specs.Rates.{hasAbility, commonOf, firstOf}
-use Rattle.resolve.specs.Roles.{isForced, asksMaster, isHigher, masterIf, bothForced, roleBy, roleOf}
+use Rattle.resolve.specs.Roles.{isForced, hasT4, isHigher, masterIf, bothForced, roleBy, roleOf}
 use Rattle.resolve.specs.Resolving.{isWide, hasOtherSelector, isTie, settledBy, resolutionOf}
 
 -- What the other end answers.
@@ -73,9 +73,9 @@ both-other false false = refl
 
 role-by : (f g : Bool) (own partner : ℕ) → isTie own partner ≡ false → roleBy g f partner own ≡ otherRole (roleBy f g own partner)
 role-by false false own partner h = ap masterIf (one-higher (fieldOf Nonce own) (fieldOf Nonce partner) h) ∙ other-side (isHigher own partner)
-role-by true false own partner h = other-side (asksMaster own)
-role-by false true own partner h = other-side-back (asksMaster partner)
-role-by true true own partner h = both-other (asksMaster own) (asksMaster partner)
+role-by true false own partner h = other-side (hasT4 own)
+role-by false true own partner h = other-side-back (hasT4 partner)
+role-by true true own partner h = both-other (hasT4 own) (hasT4 partner)
 
 -- Where T differs, one end's role is the other's opposite, and a fault is one for both.
 pub role-exchanged : (own partner : ℕ) → isTie own partner ≡ false → roleOf partner own ≡ otherRole (roleOf own partner)

@@ -12,8 +12,9 @@ use Rattle.page.specs.Fields.{fieldOf, withField}
 use Rattle.page.specs.declared.fields.Field.{Field}
 use Rattle.page.specs.declared.fields.Field.the-variants.{Selector, EchoedNonce, Pause, ForcedRole, RemoteFault, Ack, NextPage, Nonce, Abilities}
 use Rattle.page.proofs.FieldLaws.{rank, set-keeps, set-stays-word}
-use Rattle.resolve.specs.Rates.{hasBit, hasAbility, commonOf}
-use Rattle.resolve.specs.Roles.{isForced, asksMaster, masterIf, bothForced, roleBy, roleOf}
+use Rattle.resolve.specs.Rates.{hasAbility, commonOf}
+use Rattle.page.specs.Word.{hasBit}
+use Rattle.resolve.specs.Roles.{isForced, hasT4, masterIf, bothForced, roleBy, roleOf}
 use Rattle.resolve.specs.Resolving.{resolutionOf}
 use Rattle.resolve.proofs.Exchange.{opposite, exchanged}
 
@@ -36,7 +37,7 @@ same-role-by : (f g : Bool) (a b partner : ℕ) → fieldOf Nonce a ≡ fieldOf 
 same-role-by false false a b partner h = ap (λ (t : ℕ). masterIf (ltb (fieldOf Nonce partner) t)) h
 same-role-by true false a b partner h = ap (λ (t : ℕ). masterIf (hasBit t 4)) h
 same-role-by false true a b partner h = refl
-same-role-by true true a b partner h = ap (λ (t : ℕ). bothForced (hasBit t 4) (asksMaster partner)) h
+same-role-by true true a b partner h = ap (λ (t : ℕ). bothForced (hasBit t 4) (hasT4 partner)) h
 
 same-role : (order : List ℕ) (a b partner : ℕ) → Alike order a b → roleOf a partner ≡ roleOf b partner
 unfolding roleOf

@@ -1,9 +1,9 @@
 -- 01, "Rate and role": "Common bits, first in this order: A6 25GBASE-T1, A5 10G, A4 5G, A3 2.5G, A2 1000BASE-T1, A0 100BASE-T1, A1 10BASE-T1S
 -- full, A9 10BASE-T1L, A22 10BASE-T1S half. All others are ignored."
-use Prim.Native.Nat.{ℕ, _/_, _^_}
+use Prim.Native.Nat.{ℕ}
 use mathlib.Core.Bool.{Bool, cond, _&&_}
 use mathlib.Core.List.{List, [], _∷_}
-use Rattle.page.specs.Word.{odd}
+use Rattle.page.specs.Word.{hasBit}
 use Rattle.page.specs.Fields.{fieldOf}
 use Rattle.page.specs.declared.fields.Field.the-variants.{Abilities}
 use Rattle.resolve.specs.declared.rates.Rate.{Rate}
@@ -12,10 +12,6 @@ use Rattle.resolve.specs.declared.rates.Rate.the-variants.{Ability, Miss
 -- The numbers n of the abilities An, in that order. An ability that is not in the list is never looked at.
 abbrev pub rateOrder : List ℕ
 rateOrder = 6 ∷ 5 ∷ 4 ∷ 3 ∷ 2 ∷ 0 ∷ 1 ∷ 9 ∷ 22 ∷ []
-
--- Whether bit n of a number is one, the lowest bit being bit 0.
-abbrev pub hasBit : ℕ → ℕ → Bool
-hasBit number n = odd (number / 2 ^ n)
 
 -- Whether a word has the ability An: "D21-47 abilities A0-A26; the lowest bit of each field comes first". From A27 on there is none: the
 -- field has no such bit.

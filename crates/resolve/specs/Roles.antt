@@ -7,15 +7,15 @@ use Rattle.page.specs.Fields.{fieldOf}
 use Rattle.page.specs.declared.fields.Field.the-variants.{ForcedRole, Nonce}
 use Rattle.resolve.specs.declared.roles.Role.{Role}
 use Rattle.resolve.specs.declared.roles.Role.the-variants.{Master, Slave, Fault}
-use Rattle.resolve.specs.Rates.{hasBit}
+use Rattle.page.specs.Word.{hasBit}
 
 -- "D12 forced role (M/S)": whether the word's role is forced.
 abbrev pub isForced : ℕ → Bool
 isForced word = eqb (fieldOf ForcedRole word) 1
 
 -- T4, bit 4 of the nonce T: where the role is forced, 1 is master.
-abbrev pub asksMaster : ℕ → Bool
-asksMaster word = hasBit (fieldOf Nonce word) 4
+abbrev pub hasT4 : ℕ → Bool
+hasT4 word = hasBit (fieldOf Nonce word) 4
 
 -- "higher T": all five bits as a number.
 abbrev pub isHigher : ℕ → ℕ → Bool
@@ -37,9 +37,9 @@ bothForced false false = Fault
 -- decides (1 master) and the other takes the rest", where that one is own, and where it is partner; "both forced, T4 decides".
 abbrev pub roleBy : Bool → Bool → ℕ → ℕ → Role
 roleBy false false own partner = masterIf (isHigher own partner)
-roleBy true false own partner = masterIf (asksMaster own)
-roleBy false true own partner = masterIf (not (asksMaster partner))
-roleBy true true own partner = bothForced (asksMaster own) (asksMaster partner)
+roleBy true false own partner = masterIf (hasT4 own)
+roleBy false true own partner = masterIf (not (hasT4 partner))
+roleBy true true own partner = bothForced (hasT4 own) (hasT4 partner)
 
 -- The own side's role on two words. Two equal T are never asked for a role: Tie is answered before.
 unfoldable pub roleOf : ℕ → ℕ → Role

@@ -1,7 +1,8 @@
 // The resolve call.
 ghost use mathlib.Core.Path.{_≡_};
 ghost use Rattle.resolve.specs.Rates.{rateOrder};
-ghost use Rattle.resolve.specs.Resolving.{settledBy, resolutionOf};
+ghost use Rattle.refusal.specs.Answers.{said};
+ghost use Rattle.resolve.specs.Resolving.{settledBy, resolutionOf, resolveSays};
 use crate::rates::Rate;
 use crate::rates::first_common;
 use crate::roles::Role;
@@ -60,7 +61,8 @@ fn resolve_by(order: &[u8], own: u64, partner: u64) -> Answer
 
 // What two words settle on.
 pub fn resolve(own: u64, partner: u64) -> Answer
-    ensures { λ r. ⌜ r ≡ resolutionOf rateOrder own partner ⌝ }
+    ensures exactly { λ r. ⌜ r ≡ resolutionOf rateOrder own partner ⌝ }
+    ensures says { λ r. ⌜ said r ≡ resolveSays own partner ⌝ }
 {
     // A constant array is laid out anew at every use: once here.
     let order = RATE_ORDER;

@@ -1,6 +1,6 @@
 // Who is master.
 ghost use mathlib.Core.Path.{_≡_};
-ghost use Rattle.resolve.specs.Roles.{isForced, asksMaster, masterIf, bothForced, roleOf};
+ghost use Rattle.resolve.specs.Roles.{isForced, hasT4, masterIf, bothForced, roleOf};
 use page::Field;
 
 // The own side's role, or that the two ask for the same one.
@@ -18,8 +18,8 @@ fn is_forced(word: u64) -> bool
 }
 
 // T4.
-fn asks_master(word: u64) -> bool
-    ensures { λ r. ⌜ r ≡ asksMaster word ⌝ }
+fn has_t4(word: u64) -> bool
+    ensures { λ r. ⌜ r ≡ hasT4 word ⌝ }
 {
     (page::get(word, Field::Nonce) >> 4) % 2 == 1
 }
@@ -52,12 +52,12 @@ pub(crate) fn own_role(own: u64, partner: u64) -> Role
 {
     if is_forced(own) {
         if is_forced(partner) {
-            return both_forced(asks_master(own), asks_master(partner));
+            return both_forced(has_t4(own), has_t4(partner));
         }
-        return master_if(asks_master(own));
+        return master_if(has_t4(own));
     }
     if is_forced(partner) {
-        return master_if(!asks_master(partner));
+        return master_if(!has_t4(partner));
     }
     master_if(page::get(partner, Field::Nonce) < page::get(own, Field::Nonce))
 }

@@ -50,8 +50,9 @@ isUp Up = true
 abbrev pub noPage : PageRegisters
 noPage = record { low = 0; middle = 0; high = 0 }
 
--- Nothing of any link: no own page, no held page, no page out, count 0, the link latch clear. Mark and timer are set anew before they are
--- looked at; until then both stand at one reading.
+-- Nothing of any link: no own page, no held page, no page out, count 0, the link latch clear. The timer stands at the reading given: in Break this
+-- starts the break timer; in Off it is 0 and never looked at. The mark is set anew on leaving Break and not looked at before; until then it is
+-- "waiting" at the same reading.
 abbrev pub noTalk : ℕ → Talk
 noTalk reading =
     record { own = 0; held = 0; out = false; count = 0; heard = false; mark = reading; timer = reading; latch = false }
@@ -61,20 +62,21 @@ abbrev pub withoutLink : State → PageRegisters → Flags → ℕ → Device
 withoutLink state advertised flags reading =
     record { state = state; advertised = advertised; partner = noPage; flags = flags; talk = noTalk reading; outcome = Nothing; reader = Fresh }
 
+-- Page received and Remote fault both clear.
+abbrev pub noFlags : Flags
+noFlags = record { received = false; fault = false }
+
 -- "fresh (Off, all zero)"
 abbrev pub freshDevice : Device
-freshDevice = withoutLink Off noPage (record { received = false; fault = false }) 0
+freshDevice = withoutLink Off noPage noFlags 0
 
 -- "entering it forgets reader, own page, held page, page out, count, outcome and 7.517-7.519 (then zero), clears the link latch, starts the break
 -- timer. Entering Off forgets and clears the same, and starts no timer." 7.514-7.516, Page received and Remote fault are not among them.
-abbrev pub entered : State → ℕ → Device → Device
-entered state reading d = withoutLink state (d .advertised) (d .flags) reading
-
 abbrev pub intoBreak : ℕ → Device → Device
-intoBreak reading d = entered Break reading d
+intoBreak reading d = withoutLink Break (d .advertised) (d .flags) reading
 
 abbrev pub intoOff : Device → Device
-intoOff d = entered Off 0 d
+intoOff d = withoutLink Off (d .advertised) (d .flags) 0
 
 -- The device with another state, talk, reader, and so on; all else stays.
 abbrev pub withState : State → Device → Device

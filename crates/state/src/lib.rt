@@ -1,6 +1,6 @@
 // What a device remembers, and what is left of it where it goes into Break or Off.
 ghost use mathlib.Core.Path.{_≡_};
-ghost use Rattle.state.specs.Memory.{noPage, noTalk, withoutLink, freshDevice, entered};
+ghost use Rattle.state.specs.Memory.{noPage, noTalk, withoutLink, freshDevice, intoBreak, intoOff};
 use reader::Reader;
 use refusal::Answer;
 
@@ -114,11 +114,20 @@ impl Device {
     }
 }
 
-// The device in a state that forgets the link: Break or Off.
-pub fn enter(device: Device, state: State, reading: u32) -> Device
-    ensures { λ r. ⌜ r ≡ entered state reading device ⌝ }
+// The device in Break: the link is forgotten, and the break timer starts.
+pub fn enter_break(device: Device, reading: u32) -> Device
+    ensures { λ r. ⌜ r ≡ intoBreak reading device ⌝ }
 {
     let advertised = device.advertised;
     let flags = device.flags;
-    without_link(state, advertised, flags, reading)
+    without_link(State::Break, advertised, flags, reading)
+}
+
+// The device in Off: the link is forgotten, and no timer starts.
+pub fn enter_off(device: Device) -> Device
+    ensures { λ r. ⌜ r ≡ intoOff device ⌝ }
+{
+    let advertised = device.advertised;
+    let flags = device.flags;
+    without_link(State::Off, advertised, flags, 0)
 }

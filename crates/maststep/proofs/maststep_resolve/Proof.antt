@@ -12,4 +12,4 @@ maststep-resolve-spec =
     tie.close
     (tie.spec
     (λ c κs. search needs) (λ c κs. search needs)
-    (λ c. c .packed .ensures ∙ ap (λ (a : Answer). packed (said a)) (c .before .resolve .ensures)))
+    (λ c. c .packed .ensures ∙ ap (λ (a : Answer). packed (said a)) (c .before .resolve .ensures .0)))

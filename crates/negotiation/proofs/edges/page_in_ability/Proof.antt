@@ -11,7 +11,7 @@ page-in-ability-spec =
     tie.close
     (tie.spec
     (λ c κs. search needs) (λ c κs. search needs) (λ c κs. search needs) (λ c κs. search needs) (λ c κs. search needs)
-    (λ c. as-due (c .answered .ensures) (simp (c .before .enter .ensures, eq-eqb _ _ (c .before .before .if2 .taken), ← c .before .before .before .get3 .ensures, ← c .before .before .before .before .get2 .ensures, eq-eqb _ _ (c .before .before .before .before .before .if1 .taken), ← c .before .before .before .before .before .before .get .ensures)))
+    (λ c. as-due (c .answered .ensures) (simp (c .before .enter-break .ensures, eq-eqb _ _ (c .before .before .if2 .taken), ← c .before .before .before .get3 .ensures, ← c .before .before .before .before .get2 .ensures, eq-eqb _ _ (c .before .before .before .before .before .if1 .taken), ← c .before .before .before .before .before .before .get .ensures)))
     (λ c κs. search needs) (λ c κs. search needs)
     (λ c. as-due (c .answered2 .ensures) (simp (c .before .hold .ensures, ne-eqb _ _ (c .before .before .if2 .left), ← c .before .before .before .get3 .ensures, ← c .before .before .before .before .get2 .ensures, eq-eqb _ _ (c .before .before .before .before .before .if1 .taken), ← c .before .before .before .before .before .before .get .ensures)))
     (λ c κs. search needs)

@@ -10,11 +10,11 @@ unfolding pageInAck
 page-in-ack-spec =
     tie.close
     (tie.spec
-    (λ c κs. search needs) (λ c κs. search needs) (λ c κs. search needs) (λ c κs. search needs) (λ c κs. search needs) (λ c κs. search needs) (λ c κs. search needs)
-    (λ c. as-due (c .answered .ensures) (simp (c .before .complete .ensures, eq-eqb _ _ (c .before .before .if3 .taken), ← c .before .before .before .get3 .ensures, ← c .before .before .before .before .get2 .ensures, eq-eqb _ _ (c .before .before .before .before .before .if2 .taken), ← c .before .before .before .before .before .before .get .ensures, eq-eqb _ _ (c .before .before .before .before .before .before .before .if1 .taken), ← c .before .before .before .before .before .before .before .before .beyond-ack-and-echo2 .ensures, ← c .before .before .before .before .before .before .before .before .before .beyond-ack-and-echo .ensures)))
+    (λ c κs. search needs) (λ c κs. search needs) (λ c κs. search needs) (λ c κs. search needs) (λ c κs. search needs)
+    (λ c. as-due (c .answered .ensures) (simp (c .before .heard-at .ensures, eq-eqb _ _ (c .before .before .if2 .taken), ← c .before .before .before .get .ensures, eq-eqb _ _ (c .before .before .before .before .if1 .taken), ← c .before .before .before .before .before .beyond-ack-and-echo2 .ensures, ← c .before .before .before .before .before .before .beyond-ack-and-echo .ensures)))
+    (λ c κs. search needs) (λ c κs. search needs) (λ c κs. search needs) (λ c κs. search needs)
+    (λ c. as-due (c .answered2 .ensures) (simp (c .before .complete .ensures, eq-eqb _ _ (c .before .before .if3 .taken), ← c .before .before .before .get3 .ensures, ← c .before .before .before .before .get2 .ensures, ne-eqb _ _ (c .before .before .before .before .before .if2 .left), ← c .before .before .before .before .before .before .get .ensures, eq-eqb _ _ (c .before .before .before .before .before .before .before .if1 .taken), ← c .before .before .before .before .before .before .before .before .beyond-ack-and-echo2 .ensures, ← c .before .before .before .before .before .before .before .before .before .beyond-ack-and-echo .ensures)))
     (λ c κs. search needs) (λ c κs. search needs)
-    (λ c. as-due (c .answered2 .ensures) (simp (c .before .enter .ensures, ne-eqb _ _ (c .before .before .if3 .left), ← c .before .before .before .get3 .ensures, ← c .before .before .before .before .get2 .ensures, eq-eqb _ _ (c .before .before .before .before .before .if2 .taken), ← c .before .before .before .before .before .before .get .ensures, eq-eqb _ _ (c .before .before .before .before .before .before .before .if1 .taken), ← c .before .before .before .before .before .before .before .before .beyond-ack-and-echo2 .ensures, ← c .before .before .before .before .before .before .before .before .before .beyond-ack-and-echo .ensures)))
+    (λ c. as-due (c .answered3 .ensures) (simp (c .before .enter-break .ensures, ne-eqb _ _ (c .before .before .if3 .left), ← c .before .before .before .get3 .ensures, ← c .before .before .before .before .get2 .ensures, ne-eqb _ _ (c .before .before .before .before .before .if2 .left), ← c .before .before .before .before .before .before .get .ensures, eq-eqb _ _ (c .before .before .before .before .before .before .before .if1 .taken), ← c .before .before .before .before .before .before .before .before .beyond-ack-and-echo2 .ensures, ← c .before .before .before .before .before .before .before .before .before .beyond-ack-and-echo .ensures)))
     (λ c κs. search needs) (λ c κs. search needs)
-    (λ c. as-due (c .answered3 .ensures) (simp (c .before .heard-at .ensures, ne-eqb _ _ (c .before .before .if2 .left), ← c .before .before .before .get .ensures, eq-eqb _ _ (c .before .before .before .before .if1 .taken), ← c .before .before .before .before .before .beyond-ack-and-echo2 .ensures, ← c .before .before .before .before .before .before .beyond-ack-and-echo .ensures)))
-    (λ c κs. search needs) (λ c κs. search needs)
-    (λ c. as-due (c .answered4 .ensures) (simp (c .before .enter2 .ensures, ne-eqb _ _ (c .before .before .if1 .left), ← c .before .before .before .beyond-ack-and-echo2 .ensures, ← c .before .before .before .before .beyond-ack-and-echo .ensures))))
+    (λ c. as-due (c .answered4 .ensures) (simp (c .before .enter-break2 .ensures, ne-eqb _ _ (c .before .before .if1 .left), ← c .before .before .before .beyond-ack-and-echo2 .ensures, ← c .before .before .before .before .beyond-ack-and-echo .ensures))))

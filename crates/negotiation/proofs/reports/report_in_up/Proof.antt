@@ -7,4 +7,4 @@ report-in-up-spec =
     tie.close
     (tie.spec
     (λ c. search needs) (λ c κs. search needs)
-    (λ c. simp (c .enter .ensures, c .before .if1 .left)))
+    (λ c. simp (c .enter-break .ensures, c .before .if1 .left)))

@@ -8,4 +8,4 @@ settle-spec =
     tie.close
     (tie.spec
     (λ c κs. search needs) (λ c κs. search needs)
-    (λ c. as-due (c .answered .ensures) (simp (c .before .before .before .before .before .resolve .ensures))))
+    (λ c. as-due (c .answered .ensures) (simp (c .before .before .before .before .before .resolve .ensures .0))))

@@ -8,6 +8,6 @@ tick-in-check-link-spec =
     tie.close
     (tie.spec
     (λ c κs. search needs) (λ c κs. search needs) (λ c κs. search needs) (λ c κs. search needs)
-    (λ c. as-due (c .answered .ensures) (simp (c .before .enter .ensures, c .before .before .if1 .taken, ← c .before .before .before .run-out .ensures, ← c .before .before .before .before .inhibit-of .ensures)))
+    (λ c. as-due (c .answered .ensures) (simp (c .before .enter-break .ensures, c .before .before .if1 .taken, ← c .before .before .before .run-out .ensures, ← c .before .before .before .before .inhibit-of .ensures)))
     (λ c κs. search needs)
     (λ c. as-due (c .answered2 .ensures) (simp (c .before .if1 .left, ← c .before .before .run-out .ensures, ← c .before .before .before .inhibit-of .ensures))))

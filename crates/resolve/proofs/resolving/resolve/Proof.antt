@@ -1,0 +1,13 @@
+use mathlib.Core.Path.{ap}
+use borrow.Author.Needs.{needs}
+use Rattle.refusal.specs.Answers.{said}
+use Rattle.resolve.specs.Resolving.{resolveSays}
+use Rattle.resolve.proofs.resolving.resolve.Statement.{statement}
+use Rattle.resolve.proofs.resolving.resolve.Tie as tie
+
+pub resolve-spec : {M : Type 1} → statement M
+unfolding resolveSays
+resolve-spec =
+    tie.close
+    (tie.spec
+    (λ c. search needs) (λ c κs. search needs) (λ c. (c .resolve-by .ensures, ap said (c .resolve-by .ensures))))
