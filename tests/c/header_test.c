@@ -1,8 +1,8 @@
 /*
  * The C library as a C program sees it: through include/maststep.h, linked with libmaststep.a.
  *
- * What is expected here is written out from the scope's own tables (positions, windows, examples
- * P1-P4 and P6-P13), with no code in common with the library. A check that holds prints nothing. The
+ * What is expected here is written out from the scope's own tables (positions, windows, times, examples
+ * P1-P4 and P6-P14), with no code in common with the library. A check that holds prints nothing. The
  * last line is 'N passed, M failed', and the exit status is 1 where M is not 0.
  */
 #include <stdio.h>
@@ -48,13 +48,19 @@ static void test_header(void)
     same("Check is 3", MASTSTEP_CHECK, 3);
     same("Selector is 4", MASTSTEP_SELECTOR, 4);
     same("Tie is 5", MASTSTEP_TIE, 5);
+    same("Changed is 6", MASTSTEP_CHANGED, 6);
+    same("Echo is 7", MASTSTEP_ECHO, 7);
     same("None is 8", MASTSTEP_NONE, 8);
     same("Roles is 9", MASTSTEP_ROLES, 9);
+    same("Register is 10", MASTSTEP_REGISTER, 10);
+    same("Turn is 11", MASTSTEP_TURN, 11);
     same("Room is 12", MASTSTEP_ROOM, 12);
     same("Wide is 13", MASTSTEP_WIDE, 13);
     same("Mode is 14", MASTSTEP_MODE, 14);
     same("a page is 80", MASTSTEP_PAGE, 0x80);
+    same("an order is 81", MASTSTEP_ORDER, 0x81);
     same("settled is 82", MASTSTEP_SETTLED, 0x82);
+    same("a register's value is 83", MASTSTEP_VALUE, 0x83);
     same("a number is 84", MASTSTEP_NUMBER, 0x84);
     same("quiet is 85", MASTSTEP_QUIET, 0x85);
     same("unfit is 86", MASTSTEP_UNFIT, 0x86);
@@ -736,6 +742,238 @@ static void test_nothing_and_refusals(void)
     reads("read in mode 2, length 0 and no list", NULL, 0, 1, UINT32_MAX, packed(14, 0), UNTOUCHED);
 }
 
+/* ---- a run of events */
+
+enum { EDGE, TICK, SENT, LINK, READ, WRITE };
+enum { EVENTS = 400, ANSWERS = EVENTS + 5 };
+
+/* The events of a run, three cells each with two cells to spare, and the answer that each has to get. */
+static uint64_t cells[3 * EVENTS + 2], wanted[EVENTS], answers[ANSWERS];
+static size_t events;
+static uint32_t now;
+
+/* Adds an event at the time that it is now. */
+static void event(uint64_t kind, uint64_t argument, uint64_t answer)
+{
+    cells[3 * events] = kind;
+    cells[3 * events + 1] = now;
+    cells[3 * events + 2] = argument;
+    wanted[events++] = answer;
+}
+
+static void reads_register(uint64_t number, uint64_t value)
+{
+    event(READ, number, packed(0x83, value));
+}
+
+static void writes_register(uint64_t number, uint64_t value)
+{
+    event(WRITE, number * 65536 + value, 0);
+}
+
+/* A page arrives: its last edge answers it, the others nothing. The time is then that of the last edge. */
+static void hears(uint64_t word)
+{
+    uint32_t readings[MASTSTEP_MOST_READINGS];
+    size_t count = (size_t)maststep_value(maststep_write(readings, MASTSTEP_MOST_READINGS, 0, 1, word, now)), i;
+
+    for (i = 0; i < count; i++) {
+        now = readings[i];
+        event(EDGE, i, i + 1 == count ? packed(0x80, word) : 0);
+    }
+}
+
+/* The own page is ordered so many ns from now and not one ns before; a page takes 124 800 ns to send. */
+static void sends(uint32_t wait, uint64_t word, uint64_t answer)
+{
+    now += wait - 1;
+    event(TICK, 3, 0);
+    now += 1;
+    event(TICK, 3, packed(0x81, word));
+    now += 124800;
+    event(TICK, 3, 0);
+    event(SENT, 0, answer);
+}
+
+/* What an entry for an answer holds before a call; no answer has such a kind. */
+static uint64_t guard_of_answer(size_t i)
+{
+    return UINT64_C(0xdead000000000000) + i;
+}
+
+/* The number of entries from this one on that a call has altered. */
+static uint64_t answers_altered(size_t from)
+{
+    uint64_t n = 0;
+    size_t i;
+
+    for (i = from; i < ANSWERS; i++)
+        if (answers[i] != guard_of_answer(i)) n++;
+    return n;
+}
+
+/* One call with so many cells and entries: its answer, each event's answer, and that nothing else is altered. */
+static void runs(const char *what, size_t length, size_t room, uint64_t answer)
+{
+    static uint64_t before[3 * EVENTS + 2];
+    const size_t answered = maststep_kind(answer) == 0x84 ? (size_t)maststep_value(answer) : 0;
+    char name[96];
+    size_t i;
+
+    memcpy(before, cells, sizeof cells);
+    for (i = 0; i < ANSWERS; i++) answers[i] = guard_of_answer(i);
+    same(what, maststep_run(cells, length, answers, room), answer);
+    for (i = 0; i < answered; i++) {
+        snprintf(name, sizeof name, "%s: event %u, kind %u", what, (unsigned)i, (unsigned)cells[3 * i]);
+        same(name, answers[i], wanted[i]);
+    }
+    snprintf(name, sizeof name, "%s: other entries altered", what);
+    same(name, answers_altered(answered), 0);
+    snprintf(name, sizeof name, "%s: events altered", what);
+    same(name, memcmp(before, cells, sizeof cells) != 0, 0);
+}
+
+/* No event yet, at this time. */
+static void fresh_run(uint32_t start)
+{
+    memset(cells, 0, sizeof cells);
+    events = 0;
+    now = start;
+}
+
+static void test_run_of_a_fresh_device(void)
+{
+    fresh_run(UINT32_MAX);
+    reads_register(513, 8);
+    runs("P14", 3, 1, packed(0x84, 1));
+    /* Each call starts with a fresh device: nothing is left of this one, which is enabled and advertises. */
+    fresh_run(0);
+    writes_register(514, 0xffff);
+    writes_register(512, 0x1000);
+    reads_register(512, 0x1000);
+    runs("a device is enabled", 9, 3, packed(0x84, 3));
+    fresh_run(0);
+    reads_register(512, 0);
+    reads_register(514, 0);
+    runs("the next device is fresh", 6, 2, packed(0x84, 2));
+}
+
+/* Three events, and every room up to two more than they need. */
+static void test_run_room(void)
+{
+    size_t room, spare;
+
+    fresh_run(5);
+    reads_register(513, 8);
+    event(READ, 520, packed(10, 0));
+    event(SENT, 0, packed(11, 0));
+    for (room = 0; room < 3; room++) runs("too little room", 9, room, packed(12, 0));
+    for (room = 3; room < 6; room++) runs("room", 9, room, packed(0x84, 3));
+
+    /* The cells behind the last whole event may hold anything, and ask for no room. */
+    for (spare = 0; spare < 3; spare++) {
+        cells[9] = READ;
+        cells[10] = UINT64_MAX;
+        runs("cells to spare", 9 + spare, 3, packed(0x84, 3));
+        runs("cells to spare, too little room", 9 + spare, 2, packed(12, 0));
+        runs("one event and cells to spare", 3 + spare, 1, packed(0x84, 1));
+        runs("no whole event", spare, 0, packed(0x84, 0));
+        runs("no whole event, with room", spare, 4, packed(0x84, 0));
+        cells[9] = UINT64_MAX;
+        cells[10] = 0;
+        runs("other cells to spare", 9 + spare, 3, packed(0x84, 3));
+    }
+}
+
+static void test_run_without_lists(void)
+{
+    fresh_run(5);
+    reads_register(513, 8);
+    same("no events, no entries, no lists", maststep_run(NULL, 0, NULL, 0), packed(0x84, 0));
+    same("no whole event, no list of answers", maststep_run(cells, 2, NULL, 0), packed(0x84, 0));
+    same("one event, no list of answers", maststep_run(cells, 3, NULL, 0), packed(12, 0));
+    answers[0] = guard_of_answer(0);
+    same("no list of events", maststep_run(NULL, 0, answers, 1), packed(0x84, 0));
+    same("no list of events: the entry", answers[0], guard_of_answer(0));
+}
+
+/* Registers from 512 to 519 and no others, by the whole cell; kinds from 0 to 5 and no others. */
+static void test_run_registers(void)
+{
+    static const uint64_t none[] = {0, 7, 10, 511, 520, 65535, 65536 + 512, (UINT64_C(1) << 32) + 513, UINT64_C(1) << 47};
+    size_t i;
+
+    fresh_run(77);
+    for (i = 0; i < sizeof none / sizeof none[0]; i++) {
+        event(READ, none[i], packed(10, 0));
+        event(WRITE, none[i] * 65536 + 0x1000, packed(10, 0));
+    }
+    event(READ, UINT64_MAX, packed(10, 0));
+    event(WRITE, UINT64_MAX, packed(10, 0));
+    for (i = 512; i < 520; i++) reads_register(i, i == 513 ? 8 : 0);
+    for (i = 513; i < 520; i++) writes_register(i, 0xf0f0 + i);
+    for (i = 513; i < 520; i++) reads_register(i, i == 513 ? 8 : i < 517 ? 0xf0f0 + i : 0);
+    event(6, 512, 0);
+    event(UINT64_MAX, 512, 0);
+    event((UINT64_C(1) << 32) + READ, 513, 0);
+    event((UINT64_C(1) << 32) + WRITE, UINT64_C(512) * 65536 + 0x8000, 0);
+    reads_register(514, 0xf0f0 + 514);
+    writes_register(512, 0x9200); /* bit 15: fresh, whatever the other bits */
+    reads_register(514, 0);
+    reads_register(512, 0);
+    runs("registers", 3 * events, events, packed(0x84, events));
+}
+
+/*
+ * One side of P9 from enabling to link up. The own nonce is 5, drawn as 37, and the partner's is 9; both
+ * have 1000BASE-T1. The clock rolls over before the first page.
+ */
+static void test_run_to_link_up(void)
+{
+    const uint64_t own = 0x850001, partner = 0xa90001, ack = 0x4000;
+    const uint64_t own_answering = own + ack + (9 << 5), partner_answering = partner + ack + (5 << 5);
+
+    fresh_run(UINT32_MAX - 4000000);
+    event(SENT, 0, packed(11, 0)); /* in Off */
+    writes_register(515, 0x0080);
+    writes_register(512, 0x1000);
+    event(SENT, 0, packed(11, 0)); /* in Break */
+    event(EDGE, 0, 0);
+    now += 7999999;
+    event(TICK, 30, 0); /* one ns before Break is over */
+    now += 1;
+    event(TICK, 37, 0);
+    cells[3 * events - 2] += UINT64_C(7) << 32; /* this tick's reading, which is taken modulo 2^32 */
+    event(SENT, 0, packed(11, 0)); /* no page is out */
+    sends(350000, own, 0);
+    event(SENT, 0, packed(11, 0)); /* it is sent already */
+    now += 40000;
+    hears(partner);
+    reads_register(517, 0);
+    sends(33000, own_answering, 0);
+    now += 40000;
+    hears(partner_answering);
+    reads_register(517, partner_answering & 0xffff);
+    reads_register(518, partner >> 16);
+    reads_register(519, 0);
+    sends(33000, own_answering, 0);
+    sends(350000, own_answering, 0);
+    sends(350000, own_answering, settled(2, 0));
+    reads_register(513, 0x48);
+    event(LINK, 0, 0);
+    reads_register(513, 0x08);
+    event(LINK, UINT64_C(1) << 40, 0);
+    reads_register(513, 0x28);
+    reads_register(513, 0x2c);
+    event(LINK, 0, 0);
+    reads_register(513, 0x08);
+    reads_register(518, 0);
+    runs("to link up", 3 * events, ANSWERS, packed(0x84, events));
+    /* Every beginning of the run has the same answers, and one entry too few is refused. */
+    runs("the first 100 events", 300, 100, packed(0x84, 100));
+    runs("the run without room", 3 * events, events - 1, packed(12, 0));
+}
+
 int main(void)
 {
     /* Line by line, so that what failed is still shown if a later call crashes. */
@@ -757,6 +995,11 @@ int main(void)
     test_dropping();
     test_glued();
     test_nothing_and_refusals();
+    test_run_of_a_fresh_device();
+    test_run_room();
+    test_run_without_lists();
+    test_run_registers();
+    test_run_to_link_up();
     printf("%u passed, %u failed\n", passed, failed);
     return failed > 0;
 }
