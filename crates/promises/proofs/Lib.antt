@@ -1,0 +1,9 @@
+pub mod Twins
+pub mod TwinEdges
+pub mod TwinTicks
+pub mod ByRegister
+pub mod TwinRegisters
+pub mod TwinSteps
+pub mod TwinRuns
+pub mod Entries
+pub mod NoPageOutlives

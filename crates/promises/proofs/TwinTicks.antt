@@ -1,0 +1,114 @@
+-- Ticks, pages sent and link reports: a device and its twin say the same and stay twins. Each test on a timer comes out the same, since the time
+-- between two readings is the same if both are later by δ.
+use Prim.Native.Nat.{ℕ}
+use mathlib.Core.Path.{_≡_, refl, ap, ap₂, _∙_}
+use mathlib.Core.Bool.{Bool, false, cond}
+use mathlib.Core.List.{List}
+use lib.Dec.{leb, ltb}
+use Rattle.refusal.specs.Answers.{said, nothing, refused, pageOrdered}
+use Rattle.resolve.specs.Resolving.{resolutionOf}
+use Rattle.reader.specs.declared.reader.Reader.{Reader}
+use Rattle.reader.specs.declared.reader.Reader.the-variants.{Fresh, Open, Dropping}
+use Rattle.reader.proofs.ClockShift.{later, time-shifted}
+use Rattle.state.specs.declared.State.{State}
+use Rattle.state.specs.declared.State.the-variants.{Off, Break, Ability, Ack, Complete, CheckLink, Up}
+use Rattle.state.specs.declared.Flags.{Flags}
+use Rattle.state.specs.declared.Talk.{Talk}
+use Rattle.state.specs.declared.Device.{Device}
+use Rattle.state.specs.Memory.{withState}
+use Rattle.negotiation.specs.declared.profile.Profile.{Profile}
+use Rattle.negotiation.specs.Pages.{echoingPage}
+use Rattle.negotiation.specs.Timers.{runOut, hasRate, inhibitOf}
+use Rattle.negotiation.specs.Ticks.{holdsBack, mayOrder, orders, tickIn, tickDue}
+use Rattle.negotiation.specs.Sending.{counted, sentIn, sentDue}
+use Rattle.negotiation.specs.Reports.{reportIn, reportDue}
+use Rattle.promises.proofs.Twins.{talkIn, twin, Twins, Alike, twins-if, alike-if, twins-by, alike-by, kept, saying-same}
+use Rattle.promises.specs.TwoPasts.{shifted}
+
+module _ (δ : ℕ) (g : Flags) (reading : ℕ) where
+  -- A timer has run out at both or at neither.
+  run-out-later : (number start : ℕ) → runOut number (shifted δ start) (shifted δ reading) ≡ runOut number start reading
+  run-out-later number start = ap (leb number) (time-shifted δ reading start)
+
+  holds-back-later : (quiet : ℕ) (r : Reader) → holdsBack quiet (later δ r) (shifted δ reading) ≡ holdsBack quiet r reading
+  holds-back-later quiet Fresh = refl
+  holds-back-later quiet (Open at last bits) = ap (λ (time : ℕ). ltb time quiet) (time-shifted δ reading last)
+  holds-back-later quiet (Dropping last) = refl
+
+  -- So a page is ordered at both or at neither; in Ability, Ack and Complete both times are later by δ.
+  may-order-later : (p : Profile) (t : Talk) (r : Reader)
+      → mayOrder p (shifted δ reading) (talkIn Ability δ t) (later δ r) ≡ mayOrder p reading t r
+  unfolding mayOrder
+  may-order-later p t r =
+      ap₂ (λ (held ran : Bool). cond (t .out) false (cond held false ran))
+      (holds-back-later (p .mode .quiet) r)
+      (run-out-later (cond (t .heard) (p .silent) (p .wait)) (t .mark))
+
+  -- A page is ordered, in a state whose times are later by δ.
+  ordered : (p : Profile) (word : ℕ) (s : State) (d : Device) → talkIn s δ (d .talk) ≡ talkIn Ability δ (d .talk)
+      → Alike δ (d .flags) g (orders p reading word (withState s d)) (orders p (shifted δ reading) word (twin δ g (withState s d)))
+  unfolding orders
+  ordered p word s d times =
+      alike-by (mayOrder p reading (d .talk) (d .reader)) (mayOrder p (shifted δ reading) (talkIn s δ (d .talk)) (later δ (d .reader)))
+      (ap (λ (t : Talk). mayOrder p (shifted δ reading) t (later δ (d .reader))) times ∙ may-order-later p (d .talk) (d .reader))
+      (saying-same (pageOrdered word) kept)
+      (saying-same nothing kept)
+
+  tick-in : (s : State) (p : Profile) (draw : ℕ) (d : Device)
+      → Alike δ (d .flags) g (tickIn s p reading draw (withState s d)) (tickIn s p (shifted δ reading) draw (twin δ g (withState s d)))
+  tick-in Off p draw d = saying-same nothing kept
+  tick-in Break p draw d =
+      saying-same nothing
+      (twins-by (runOut (p .pause) (d .talk .timer) reading) (runOut (p .pause) (shifted δ (d .talk .timer)) (shifted δ reading))
+      (run-out-later (p .pause) (d .talk .timer))
+      kept
+      kept)
+  tick-in Ability p draw d = ordered p (d .talk .own) Ability d refl
+  tick-in Ack p draw d = ordered p (echoingPage (d .talk .own) (d .talk .held)) Ack d refl
+  tick-in Complete p draw d = ordered p (echoingPage (d .talk .own) (d .talk .held)) Complete d refl
+  tick-in CheckLink p draw d =
+      let number = inhibitOf (d .outcome) in
+      saying-same nothing
+      (twins-by (runOut number (d .talk .timer) reading) (runOut number (shifted δ (d .talk .timer)) (shifted δ reading))
+      (run-out-later number (d .talk .timer))
+      kept
+      kept)
+  tick-in Up p draw d = saying-same nothing kept
+
+  pub tick-alike : (p : Profile) (draw : ℕ) (d : Device) → Alike δ (d .flags) g (tickDue p reading draw d) (tickDue p (shifted δ reading) draw (twin δ g d))
+  unfolding tickDue
+  tick-alike p draw d = tick-in (d .state) p draw d
+
+  -- A page sent.
+  sent-in : (s : State) (order : List ℕ) (d : Device)
+      → Alike δ (d .flags) g (sentIn s order reading (withState s d)) (sentIn s order (shifted δ reading) (twin δ g (withState s d)))
+  unfolding counted
+  sent-in Off order d = saying-same (refused 11) kept
+  sent-in Break order d = saying-same (refused 11) kept
+  sent-in Ability order d = alike-if (d .talk .out) (saying-same nothing kept) (saying-same (refused 11) kept)
+  sent-in Ack order d = alike-if (d .talk .out) (saying-same nothing kept) (saying-same (refused 11) kept)
+  sent-in Complete order d =
+      alike-if (d .talk .out)
+      (alike-if (leb 2 (d .talk .count)) (saying-same (said (resolutionOf order (d .talk .own) (d .talk .held))) kept) (saying-same nothing kept))
+      (saying-same (refused 11) kept)
+  sent-in CheckLink order d = alike-if (d .talk .out) (saying-same nothing kept) (saying-same (refused 11) kept)
+  sent-in Up order d = alike-if (d .talk .out) (saying-same nothing kept) (saying-same (refused 11) kept)
+
+  pub sent-alike : (order : List ℕ) (d : Device) → Alike δ (d .flags) g (sentDue order reading d) (sentDue order (shifted δ reading) (twin δ g d))
+  unfolding sentDue
+  sent-alike order d = sent-in (d .state) order d
+
+  -- A link report.
+  report-in : (s : State) (up : Bool) (d : Device)
+      → Twins δ (d .flags) g (reportIn s up reading (withState s d)) (reportIn s up (shifted δ reading) (twin δ g (withState s d)))
+  report-in Off up d = kept
+  report-in Break up d = kept
+  report-in Ability up d = kept
+  report-in Ack up d = kept
+  report-in Complete up d = kept
+  report-in CheckLink up d = twins-if up (twins-if (hasRate (d .outcome)) kept kept) kept
+  report-in Up up d = twins-if up kept kept
+
+  pub report-alike : (up : Bool) (d : Device) → Alike δ (d .flags) g (reportDue up reading d) (reportDue up (shifted δ reading) (twin δ g d))
+  unfolding reportDue
+  report-alike up d = saying-same nothing (report-in (d .state) up d)

@@ -1,0 +1,125 @@
+-- The customer's demand 3: "No page outlives its link. Two modules with any two pasts, each just gone into Break, with the same advertisement
+-- registers, given the same later events and draws (the second's clock readings shifted by the difference of the entry readings modulo 2^32), give
+-- the same answers, register values and ordered pages; only bits 6 and 4 of 7.513 may differ, up to and with its first read."
+use Prim.Native.Nat.{ℕ, _+_, _*_, _/_, _%_, _^_}
+use mathlib.Core.Path.{_≡_}
+use mathlib.Core.Bool.{Bool, true, false, cond, not, _&&_, _||_}
+use mathlib.Core.List.{List, [], _∷_, map}
+use lib.Dec.{eqb}
+use Rattle.refusal.specs.Answers.{Said, saying}
+use Rattle.gap.specs.Clock.{timeBetween}
+use Rattle.state.specs.declared.State.{State}
+use Rattle.state.specs.declared.State.the-variants.{Off, Break, Ability, Ack, Complete, CheckLink, Up}
+use Rattle.state.specs.declared.Device.{Device}
+use Rattle.state.specs.Memory.{freshDevice}
+use Rattle.registers.specs.Registers.{hasBit, readDue}
+use Rattle.device.specs.declared.events.Event.{Event}
+use Rattle.device.specs.declared.events.Event.the-variants.{Edge, Tick, Sent, Report, Read, Write, Unnamed}
+use Rattle.device.specs.Steps.{stepDue, saysTo, afterAll}
+
+-- "each just gone into Break": the device is in Break after the event, and was not before it, or the event restarts it there.
+abbrev pub isBreak : State → Bool
+isBreak Off = false
+isBreak Break = true
+isBreak Ability = false
+isBreak Ack = false
+isBreak Complete = false
+isBreak CheckLink = false
+isBreak Up = false
+
+-- 01, "Registers": a write to 512 with bit 12, enable, and bit 9 "goes to Break" from Break too. (With bit 15 as well the device is fresh and Off.)
+abbrev pub restarts : Event → Bool
+restarts (Edge reading) = false
+restarts (Tick reading draw) = false
+restarts (Sent reading) = false
+restarts (Report reading up) = false
+restarts (Read reading register) = false
+restarts (Write reading register value) = eqb register 512 && (hasBit 12 value && hasBit 9 value)
+restarts Unnamed = false
+
+abbrev pub entersBreak : Event → Device → Bool
+entersBreak e d = isBreak (stepDue e d .device .state) && (not (isBreak (d .state)) || restarts e)
+
+-- A module with "any past": any events from a fresh device on, and one more, which has just taken it into Break.
+pub record Module : Type 0 where
+  pub past : List Event
+  pub entry : Event
+  pub entered : entersBreak entry (afterAll freshDevice past) ≡ true
+
+-- The device as it then is.
+abbrev pub deviceOf : Module → Device
+deviceOf m = stepDue (m .entry) (afterAll freshDevice (m .past)) .device
+
+-- "Every event carries a clock reading". (A number that names no event carries none, and never enters Break.)
+abbrev pub readingOf : Event → ℕ
+readingOf (Edge reading) = reading
+readingOf (Tick reading draw) = reading
+readingOf (Sent reading) = reading
+readingOf (Report reading up) = reading
+readingOf (Read reading register) = reading
+readingOf (Write reading register value) = reading
+readingOf Unnamed = 0
+
+-- "the difference of the entry readings modulo 2^32"
+abbrev pub difference : Module → Module → ℕ
+difference first second = timeBetween (readingOf (second .entry)) (readingOf (first .entry))
+
+-- "the same .. events and draws (the second's clock readings shifted by ..)": nothing but the reading changes.
+abbrev pub shifted : ℕ → ℕ → ℕ
+shifted δ reading = (reading + δ) % 2 ^ 32
+
+abbrev pub shiftedBy : ℕ → Event → Event
+shiftedBy δ (Edge reading) = Edge (shifted δ reading)
+shiftedBy δ (Tick reading draw) = Tick (shifted δ reading) draw
+shiftedBy δ (Sent reading) = Sent (shifted δ reading)
+shiftedBy δ (Report reading up) = Report (shifted δ reading) up
+shiftedBy δ (Read reading register) = Read (shifted δ reading) register
+shiftedBy δ (Write reading register value) = Write (shifted δ reading) register value
+shiftedBy δ Unnamed = Unnamed
+
+-- "only bits 6 and 4 of 7.513 may differ": an answer whose value is taken without these two.
+unfoldable pub without6And4 : Said → Said
+without6And4 s = saying (s .kind) (s .value % 2 ^ 4 + (s .value / 2 ^ 5 % 2 * 2 ^ 5 + s .value / 2 ^ 7 * 2 ^ 7))
+
+-- "up to and with its first read"
+abbrev pub readsStatus : Event → Bool
+readsStatus (Edge reading) = false
+readsStatus (Tick reading draw) = false
+readsStatus (Sent reading) = false
+readsStatus (Report reading up) = false
+readsStatus (Read reading register) = eqb register 513
+readsStatus (Write reading register value) = false
+readsStatus Unnamed = false
+
+-- "the same answers": an answer for each event, whole but for the first to a read of 7.513, which is taken without bits 6 and 4.
+unfoldable pub compared : List Event → List Said → List Said
+compared [] says = says
+compared (e ∷ later) [] = []
+compared (e ∷ later) (s ∷ rest) = cond (readsStatus e) (without6And4 s ∷ rest) (s ∷ compared later rest)
+
+-- "register values": what a read of a register would answer after all events, whole but for 7.513 if it has not been read.
+unfoldable pub statusWasRead : List Event → Bool
+statusWasRead [] = false
+statusWasRead (e ∷ later) = readsStatus e || statusWasRead later
+
+unfoldable pub comparedValue : List Event → ℕ → Said → Said
+comparedValue later register value = cond (eqb register 513 && not (statusWasRead later)) (without6And4 value) value
+
+-- "ordered pages": the words of the answers that order a page, which are those of kind 81 hex, in order.
+unfoldable pub orderedPages : List Said → List ℕ
+orderedPages [] = []
+orderedPages (s ∷ rest) = let more = orderedPages rest in cond (eqb (s .kind) 0x81) (s .value ∷ more) more
+
+-- Two devices that, each given its row of events, "give the same answers, register values and ordered pages".
+pub record Same (d : Device) (later : List Event) (d′ : Device) (later′ : List Event) : Type 0 where
+  pub answers : compared later (saysTo d later) ≡ compared later′ (saysTo d′ later′)
+  pub registers : (register : ℕ)
+      → comparedValue later register (readDue register (afterAll d later) .says) ≡ comparedValue later′ register (readDue register (afterAll d′ later′) .says)
+  pub pages : orderedPages (saysTo d later) ≡ orderedPages (saysTo d′ later′)
+
+-- "No page outlives its link." The two premises are the customer's: each has just gone into Break, which `Module` says, and the registers
+-- 7.514-7.516 are the same.
+abbrev pub NoPageOutlivesItsLink : Type 0
+NoPageOutlivesItsLink =
+    (first second : Module) (later : List Event) → deviceOf first .advertised ≡ deviceOf second .advertised
+    → Same (deviceOf first) later (deviceOf second) (map (shiftedBy (difference first second)) later)
