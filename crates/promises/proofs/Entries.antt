@@ -13,12 +13,14 @@ use Rattle.state.specs.declared.State.{State}
 use Rattle.state.specs.declared.State.the-variants.{Off, Break, Ability, Ack, Complete, CheckLink, Up}
 use Rattle.state.specs.declared.Device.{Device}
 use Rattle.state.specs.Memory.{Due, due, isOff, intoBreak, intoOff, withState, withReader}
-use Rattle.registers.specs.Registers.{registerOf, hasBit, readDue, commanded, writeDue}
+use Rattle.page.specs.Word.{hasBit}
+use Rattle.resolve.specs.Resolving.{hasOtherSelector, isTie}
+use Rattle.registers.specs.Registers.{registerOf, readDue, commanded, writeDue}
 use Rattle.negotiation.specs.declared.profile.Profile.{Profile}
 use Rattle.negotiation.specs.Timers.{runOut, hasRate, inhibitOf}
-use Rattle.negotiation.specs.Pages.{beyondAckAndEcho}
-use Rattle.negotiation.specs.Memories.{isTalking}
-use Rattle.negotiation.specs.Edges.{pageInAbility, pageInAck, pageIn, heardOf, edgeDue}
+use Rattle.negotiation.specs.Pages.{isChanged}
+use Rattle.negotiation.specs.Changes.{isTalking}
+use Rattle.negotiation.specs.Edges.{echoesOther, pageInAbility, pageInAck, pageIn, listened, edgeDue}
 use Rattle.negotiation.specs.Ticks.{mayOrder, orders, tickIn, tickDue}
 use Rattle.negotiation.specs.Sending.{counted, sentIn, sentDue}
 use Rattle.negotiation.specs.Reports.{reportIn, reportDue}
@@ -66,29 +68,22 @@ module _ (reading : ℕ) where
   page-entry Off word d b = stays refl
   page-entry Break word d b = stays refl
   page-entry Ability word d b =
-      due-if (eqb (fieldOf field.Selector word) 1)
-      (due-if (eqb (fieldOf field.Nonce word) (fieldOf field.Nonce (d .talk .own))) it (elsewhere refl))
-      (stays refl)
+      due-if (hasOtherSelector word) (stays refl) (due-if (isTie (d .talk .own) word) it (elsewhere refl))
   page-entry Ack word d b =
-      due-if (eqb (beyondAckAndEcho word) (beyondAckAndEcho (d .talk .held)))
-      (due-if (eqb (fieldOf field.Ack word) 1)
-      (due-if (eqb (fieldOf field.EchoedNonce word) (fieldOf field.Nonce (d .talk .own))) (elsewhere refl) it)
-      (stays refl))
-      it
+      due-if (isChanged word (d .talk .held)) it
+      (due-if (eqb (fieldOf field.Ack word) 0) (stays refl) (due-if (echoesOther (d .talk .own) word) it (elsewhere refl)))
   page-entry Complete word d b = stays refl
   page-entry CheckLink word d b = stays refl
   page-entry Up word d b = stays refl
 
-  heard-entry : (b : Brings) (d : Device) → Entry false reading d (heardOf b reading d)
-  unfolding heardOf
+  heard-entry : (b : Brings) (d : Device) → Entry false reading d (listened b reading d)
+  unfolding listened
   heard-entry b d = due-if (eqb (b .says .kind) 0x80) (page-entry (d .state) (b .says .value) d b) (stays refl)
 
   edge-entry : (p : Profile) (d : Device) → Entry false reading d (edgeDue p reading d)
   unfolding edgeDue
   edge-entry p d =
-      due-if (isTalking (d .state))
-      (due-if (d .talk .out) (stays refl) (heard-entry (edgeOf (p .mode) (d .reader) reading) d))
-      (stays refl)
+      due-if (isTalking (d .state) && not (d .talk .out)) (heard-entry (edgeOf (p .mode) (d .reader) reading) d) (stays refl)
 
   -- Ticks: the inhibit timer in Check-link.
   order-entry : (p : Profile) (word : ℕ) (d : Device) → Entry false reading d (orders p reading word d)
@@ -97,7 +92,7 @@ module _ (reading : ℕ) where
 
   tick-in : (s : State) (p : Profile) (draw : ℕ) (d : Device) → Entry false reading (withState s d) (tickIn s p reading draw (withState s d))
   tick-in Off p draw d = stays refl
-  tick-in Break p draw d = entry-if (runOut (p .pause) (d .talk .timer) reading) (elsewhere refl) (stays refl)
+  tick-in Break p draw d = entry-if (runOut (p .breaking) (d .talk .timer) reading) (elsewhere refl) (stays refl)
   tick-in Ability p draw d = order-entry p _ (withState Ability d)
   tick-in Ack p draw d = order-entry p _ (withState Ack d)
   tick-in Complete p draw d = order-entry p _ (withState Complete d)
@@ -148,16 +143,16 @@ module _ (reading : ℕ) where
 
   -- Writes: enabling and restarting.
   command-entry : (enable restart : Bool) (d : Device)
-      → Entry (enable && restart) reading d (due nothing (cond enable (cond restart (intoBreak reading d) (cond (isOff (d .state)) (intoBreak reading d) d)) (intoOff d)))
+      → Entry (enable && restart) reading d (due nothing (cond enable (cond (restart || isOff (d .state)) (intoBreak reading d) d) (intoOff d)))
   command-entry true true d = it
   command-entry true false d = entry-if (isOff (d .state)) it (stays refl)
   command-entry false restart d = elsewhere refl
 
-  write-entry : (n value : ℕ) (d : Device) → Entry (eqb n 512 && (hasBit 12 value && hasBit 9 value)) reading d (writeDue n value reading d)
+  write-entry : (n value : ℕ) (d : Device) → Entry (eqb n 512 && (hasBit value 12 && hasBit value 9)) reading d (writeDue n value reading d)
   unfolding writeDue registerOf commanded
   write-entry n value d =
-      by-register (λ (m : ℕ). Entry (eqb m 512 && (hasBit 12 value && hasBit 9 value)) reading d (writeDue m value reading d))
-      (entry-if (hasBit 15 value) (elsewhere refl) (command-entry (hasBit 12 value) (hasBit 9 value) d))
+      by-register (λ (m : ℕ). Entry (eqb m 512 && (hasBit value 12 && hasBit value 9)) reading d (writeDue m value reading d))
+      (entry-if (hasBit value 15) (elsewhere refl) (command-entry (hasBit value 12) (hasBit value 9) d))
       (stays refl) (stays refl) (stays refl) (stays refl) (stays refl) (stays refl) (stays refl)
       (λ m no. rw (no .write value reading d, no .command) (stays refl))
       n

@@ -2,13 +2,14 @@
 -- which are the flags, and after it the flags are clear at both.
 use Prim.Native.Nat.{ℕ}
 use mathlib.Core.Path.{_≡_, refl, sym, ap, _∙_}
-use mathlib.Core.Bool.{Bool, true, false, true≢false}
+use mathlib.Core.Bool.{Bool, true, false, true≢false, _||_}
 use lib.Dec.{eqb}
 use Rattle.refusal.specs.Answers.{nothing, refused, registerValue}
+use Rattle.page.specs.Word.{hasBit}
 use Rattle.state.specs.declared.Flags.{Flags}
 use Rattle.state.specs.declared.Device.{Device}
 use Rattle.state.specs.Memory.{Due, isOff, isUp}
-use Rattle.registers.specs.Registers.{registerOf, hasBit, controlValue, statusBits, readDue, commanded, writeDue}
+use Rattle.registers.specs.Registers.{registerOf, controlValue, statusBits, readDue, commanded, writeDue}
 use Rattle.promises.specs.TwoPasts.{shifted, without6And4}
 use Rattle.promises.proofs.ByRegister.{by-register}
 use Rattle.promises.proofs.Twins.{twin, Twins, Alike, twins-if, kept, saying-same}
@@ -67,8 +68,8 @@ module _ (δ : ℕ) (g : Flags) where
       → Twins δ (d .flags) g (commanded value reading d) (commanded value (shifted δ reading) (twin δ g d))
   unfolding commanded
   command-twins value reading d =
-      twins-if (hasBit 15 value) (record { device = refl; flags = λ h. refl })
-      (twins-if (hasBit 12 value) (twins-if (hasBit 9 value) kept (twins-if (isOff (d .state)) kept kept)) kept)
+      twins-if (hasBit value 15) (record { device = refl; flags = λ h. refl })
+      (twins-if (hasBit value 12) (twins-if (hasBit value 9 || isOff (d .state)) kept kept) kept)
 
   pub write-alike : (n value reading : ℕ) (d : Device)
       → Alike δ (d .flags) g (writeDue n value reading d) (writeDue n value (shifted δ reading) (twin δ g d))

@@ -2,7 +2,7 @@
 -- between two readings is the same if both are later by δ.
 use Prim.Native.Nat.{ℕ}
 use mathlib.Core.Path.{_≡_, refl, ap, ap₂, _∙_}
-use mathlib.Core.Bool.{Bool, false, cond}
+use mathlib.Core.Bool.{Bool, cond, not, _&&_}
 use mathlib.Core.List.{List}
 use lib.Dec.{leb, ltb}
 use Rattle.refusal.specs.Answers.{said, nothing, refused, pageOrdered}
@@ -40,7 +40,7 @@ module _ (δ : ℕ) (g : Flags) (reading : ℕ) where
       → mayOrder p (shifted δ reading) (talkIn Ability δ t) (later δ r) ≡ mayOrder p reading t r
   unfolding mayOrder
   may-order-later p t r =
-      ap₂ (λ (held ran : Bool). cond (t .out) false (cond held false ran))
+      ap₂ (λ (held ran : Bool). not (t .out) && (not held && ran))
       (holds-back-later (p .mode .quiet) r)
       (run-out-later (cond (t .heard) (p .silent) (p .wait)) (t .mark))
 
@@ -59,8 +59,8 @@ module _ (δ : ℕ) (g : Flags) (reading : ℕ) where
   tick-in Off p draw d = saying-same nothing kept
   tick-in Break p draw d =
       saying-same nothing
-      (twins-by (runOut (p .pause) (d .talk .timer) reading) (runOut (p .pause) (shifted δ (d .talk .timer)) (shifted δ reading))
-      (run-out-later (p .pause) (d .talk .timer))
+      (twins-by (runOut (p .breaking) (d .talk .timer) reading) (runOut (p .breaking) (shifted δ (d .talk .timer)) (shifted δ reading))
+      (run-out-later (p .breaking) (d .talk .timer))
       kept
       kept)
   tick-in Ability p draw d = ordered p (d .talk .own) Ability d refl

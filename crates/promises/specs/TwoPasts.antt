@@ -7,12 +7,13 @@ use mathlib.Core.Bool.{Bool, true, false, cond, not, _&&_, _||_}
 use mathlib.Core.List.{List, [], _∷_, map}
 use lib.Dec.{eqb}
 use Rattle.refusal.specs.Answers.{Said, saying}
+use Rattle.page.specs.Word.{hasBit}
 use Rattle.gap.specs.Clock.{timeBetween}
 use Rattle.state.specs.declared.State.{State}
 use Rattle.state.specs.declared.State.the-variants.{Off, Break, Ability, Ack, Complete, CheckLink, Up}
 use Rattle.state.specs.declared.Device.{Device}
 use Rattle.state.specs.Memory.{freshDevice}
-use Rattle.registers.specs.Registers.{hasBit, readDue}
+use Rattle.registers.specs.Registers.{readDue}
 use Rattle.device.specs.declared.events.Event.{Event}
 use Rattle.device.specs.declared.events.Event.the-variants.{Edge, Tick, Sent, Report, Read, Write, Unnamed}
 use Rattle.device.specs.Steps.{stepDue, saysTo, afterAll}
@@ -34,7 +35,7 @@ restarts (Tick reading draw) = false
 restarts (Sent reading) = false
 restarts (Report reading up) = false
 restarts (Read reading register) = false
-restarts (Write reading register value) = eqb register 512 && (hasBit 12 value && hasBit 9 value)
+restarts (Write reading register value) = eqb register 512 && (hasBit value 12 && hasBit value 9)
 restarts Unnamed = false
 
 abbrev pub entersBreak : Event → Device → Bool
