@@ -7,3 +7,4 @@ pub mod TwinSteps
 pub mod TwinRuns
 pub mod Entries
 pub mod NoPageOutlives
+pub mod GoodAsNew

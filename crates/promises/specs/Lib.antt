@@ -1,1 +1,2 @@
 pub mod TwoPasts
+pub mod AsIfNew
