@@ -8,3 +8,5 @@ pub mod TwinRuns
 pub mod Entries
 pub mod NoPageOutlives
 pub mod GoodAsNew
+pub mod TheTable
+pub mod Links
