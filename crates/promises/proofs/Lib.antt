@@ -7,3 +7,6 @@ pub mod TwinSteps
 pub mod TwinRuns
 pub mod Entries
 pub mod NoPageOutlives
+pub mod GoodAsNew
+pub mod TheTable
+pub mod Links

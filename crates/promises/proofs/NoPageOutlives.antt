@@ -56,7 +56,7 @@ settled δ later d =
         exact-value 0 later′ d n
         ∙ ap (λ (events : List Event). readDue n (afterAll (twin 0 (d .flags) d) events) .says) (settled-events δ later)
 
-same-both : {a b c : Device} {events events′ events″ : List Event} → Same a events b events′ → Same b events′ c events″ → Same a events c events″
+pub same-both : {a b c : Device} {events events′ events″ : List Event} → Same a events b events′ → Same b events′ c events″ → Same a events c events″
 same-both p q =
     record { answers = p .answers ∙ q .answers; registers = λ n. p .registers n ∙ q .registers n; pages = p .pages ∙ q .pages }
 
@@ -79,7 +79,7 @@ entered-same r s d c later same =
     δ = timeBetween s r
 
 -- A module that has just gone into Break has just entered it.
-has-entered : (m : Module) → deviceOf m ≡ intoBreak (readingOf (m .entry)) (afterAll freshDevice (m .past))
+pub has-entered : (m : Module) → deviceOf m ≡ intoBreak (readingOf (m .entry)) (afterAll freshDevice (m .past))
 has-entered m = step-entry lowSpeed rateOrder (m .entry) (afterAll freshDevice (m .past)) .same (m .entered)
 
 pub no-page-outlives-its-link : NoPageOutlivesItsLink

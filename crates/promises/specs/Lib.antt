@@ -1,1 +1,5 @@
 pub mod TwoPasts
+pub mod AsIfNew
+pub mod FirstLink
+pub mod WorkedPasts
+pub mod Table

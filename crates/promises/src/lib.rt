@@ -1,1 +1,7 @@
-// The promises of the module, stated in specs/ and proved in proofs/. There is no code here.
+// The promises on the module as a whole. They are stated in specs/ and proved in proofs/; there is no code.
+//
+// specs/TwoPasts     the customer's demand 3: no page outlives its link
+// specs/AsIfNew      what it comes to for one module: after Break it is as good as new
+// specs/FirstLink    a link from a fresh device through every state to Up
+// specs/WorkedPasts  two pasts for which demand 3 is worked out
+// specs/Table        P1-P14

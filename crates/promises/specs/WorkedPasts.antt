@@ -1,0 +1,46 @@
+-- Two pasts as far apart as they can be, and what demand 3 comes to for them.
+use Prim.Native.Nat.{ℕ, _^_}
+use mathlib.Core.Path.{_≡_}
+use mathlib.Core.Bool.{true, false}
+use mathlib.Core.List.{List, [], _∷_, map}
+use Rattle.refusal.specs.Answers.{Said, nothing, pageOrdered, registerValue}
+use Rattle.state.specs.declared.Device.{Device}
+use Rattle.state.specs.Memory.{freshDevice}
+use Rattle.device.specs.declared.events.Event.{Event}
+use Rattle.device.specs.declared.events.Event.the-variants.{Tick, Report, Read, Write}
+use Rattle.device.specs.Steps.{stepDue, saysTo, afterAll}
+use Rattle.promises.specs.TwoPasts.{entersBreak, shiftedBy}
+use Rattle.promises.specs.FirstLink.{toUp}
+
+-- The first has never heard a page: A2 is advertised, and it is enabled 296 ns before the clock rolls over.
+abbrev pub firstPast : List Event
+firstPast = Write 0 515 0x80 ∷ []
+
+abbrev pub firstEntry : Event
+firstEntry = Write 4294967000 512 (2 ^ 12)
+
+-- The second has had a link, which now goes down. Its entry reading is 9 600 296 ns later, modulo 2^32.
+abbrev pub secondPast : List Event
+secondPast = toUp
+
+abbrev pub secondEntry : Event
+secondEntry = Report 9600000 false
+
+abbrev pub firstDevice : Device
+firstDevice = stepDue firstEntry (afterAll freshDevice firstPast) .device
+
+abbrev pub secondDevice : Device
+secondDevice = stepDue secondEntry (afterAll freshDevice secondPast) .device
+
+-- Later the break timer runs out, a page is ordered, 513 is read twice, and 517 once.
+abbrev pub laterEvents : List Event
+laterEvents = Tick 7999703 9 ∷ Tick 7999704 9 ∷ Tick 8349704 0 ∷ Read 8349705 513 ∷ Read 8349706 513 ∷ Read 8349707 517 ∷ []
+
+-- Both say the same, but for bit 6 of 513 at its first read, 08 and 48 hex: the second had received a page.
+pub record WorkedPasts : Type 0 where
+  pub first-enters : entersBreak firstEntry (afterAll freshDevice firstPast) ≡ true
+  pub second-enters : entersBreak secondEntry (afterAll freshDevice secondPast) ≡ true
+  pub first-says : saysTo firstDevice laterEvents
+      ≡ nothing ∷ nothing ∷ pageOrdered 0x890001 ∷ registerValue 0x08 ∷ registerValue 0x08 ∷ registerValue 0 ∷ []
+  pub second-says : saysTo secondDevice (map (shiftedBy 9600296) laterEvents)
+      ≡ nothing ∷ nothing ∷ pageOrdered 0x890001 ∷ registerValue 0x48 ∷ registerValue 0x08 ∷ registerValue 0 ∷ []
