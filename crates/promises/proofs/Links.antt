@@ -12,7 +12,7 @@ use Rattle.reader.specs.Pattern.{asks, always, byBit, isClock}
 use Rattle.reader.specs.Reading.{edgeOf, arrives, goesOn, dropsOn}
 use Rattle.registers.specs.Registers.{registerOf, statusBits, readDue, commanded, writeDue}
 use Rattle.negotiation.specs.Pages.{wordOf, nonceFor, ownPage, echoingPage, beyondAckAndEcho}
-use Rattle.negotiation.specs.Edges.{pageInAbility, pageInAck, pageIn, heardOf, edgeDue}
+use Rattle.negotiation.specs.Edges.{pageInAbility, pageInAck, pageIn, listened, edgeDue}
 use Rattle.negotiation.specs.Ticks.{mayOrder, orders, tickDue}
 use Rattle.negotiation.specs.Sending.{counted, sentDue}
 use Rattle.negotiation.specs.Reports.{reportDue}
@@ -21,10 +21,10 @@ use Rattle.promises.specs.FirstLink.{spoken, FirstLink}
 use Rattle.promises.specs.WorkedPasts.{WorkedPasts}
 
 pub first-link : FirstLink
-unfolding spoken afterAll saysTo stepOver tickDue writeDue readDue sentDue reportDue registerOf commanded statusBits ownPage echoingPage nonceFor wordOf beyondAckAndEcho part withPart edgeDue heardOf edgeOf goesOn dropsOn judgementOf asks always byBit arrives isClock agrees checkBits checkList remainder xor readings transitions positionsTo hasTransition sentBits pageIn pageInAbility pageInAck mayOrder orders counted resolutionOf hasAbility roleOf
+unfolding spoken afterAll saysTo stepOver tickDue writeDue readDue sentDue reportDue registerOf commanded statusBits ownPage echoingPage nonceFor wordOf beyondAckAndEcho part withPart edgeDue listened edgeOf goesOn dropsOn judgementOf asks always byBit arrives isClock agrees checkBits checkList remainder xor readings transitions positionsTo hasTransition sentBits pageIn pageInAbility pageInAck mayOrder orders counted resolutionOf hasAbility roleOf
 first-link =
     record { break = refl; ability = refl; ack = refl; complete = refl; check-link = refl; up = refl; says = refl }
 
 pub worked-pasts : WorkedPasts
-unfolding afterAll saysTo stepOver tickDue writeDue readDue sentDue reportDue registerOf commanded statusBits ownPage echoingPage nonceFor wordOf beyondAckAndEcho part withPart edgeDue heardOf edgeOf goesOn dropsOn judgementOf asks always byBit arrives isClock agrees checkBits checkList remainder xor readings transitions positionsTo hasTransition sentBits pageIn pageInAbility pageInAck mayOrder orders counted resolutionOf hasAbility roleOf
+unfolding afterAll saysTo stepOver tickDue writeDue readDue sentDue reportDue registerOf commanded statusBits ownPage echoingPage nonceFor wordOf beyondAckAndEcho part withPart edgeDue listened edgeOf goesOn dropsOn judgementOf asks always byBit arrives isClock agrees checkBits checkList remainder xor readings transitions positionsTo hasTransition sentBits pageIn pageInAbility pageInAck mayOrder orders counted resolutionOf hasAbility roleOf
 worked-pasts = record { first-enters = refl; second-enters = refl; first-says = refl; second-says = refl }
