@@ -1,5 +1,5 @@
 /*
- * bench WHICH SIDE N [LENGTH]
+ * main WHICH SIDE N [LENGTH]
  *
  *   WHICH   check: check bits, a call for a word; write: a page, a call for a word; read: a capture, a
  *           walk over all its attempts, which counts as one call
@@ -17,34 +17,15 @@
  */
 #include <stdio.h>
 #include <string.h>
-#include <time.h>
 
+#include "common.h"
 #include "maststep.h"
 
 uint64_t plain_check(uint64_t word);
 uint64_t plain_write(uint32_t *list, size_t length, size_t place, uint32_t mode, uint64_t word, uint32_t first);
 uint64_t plain_read(const uint32_t *list, size_t length, size_t place, uint32_t mode, size_t *next);
 
-/*
- * Rust's core library was compiled for programs that unwind, and names this function in its tables. The
- * plain side is compiled to abort on a panic, so that nothing ever calls it.
- */
-void rust_eh_personality(void);
-void rust_eh_personality(void) {}
-
 enum { WORDS = 64, ENTRIES = 160, PLACE = 5, ROUNDS = 25, MOST = 8000 };
-
-/* What runs between the calls: the compiler lays it into main, under whose name the count leaves it out. */
-#define PART_OF_MAIN static inline __attribute__((always_inline))
-
-/* A decimal number, or 0 where it is none. */
-PART_OF_MAIN unsigned long number(const char *digit)
-{
-    unsigned long n = 0;
-
-    for (; *digit >= '0' && *digit <= '9'; digit++) n = n * 10 + (unsigned long)(*digit - '0');
-    return *digit == '\0' ? n : 0;
-}
 
 /* Fills a capture with pages in a row and quiet gaps between them. Its end may cut the last page. */
 static void fill(uint32_t *capture, size_t length, uint32_t mode, const uint64_t *words)
@@ -102,19 +83,14 @@ int main(int argc, char **argv)
     if (!writing && !reading && strcmp(argv[1], "check") != 0) return 2;
     if (!timed && !from && strcmp(argv[2], "maststep") != 0) return 2;
 
-    /* Knuth's MMIX generator; its upper bits are the good ones. */
-    for (i = 0; i < WORDS; i++) {
-        seed = seed * UINT64_C(6364136223846793005) + UINT64_C(1442695040888963407);
-        words[i] = seed >> 16;
-    }
+    for (i = 0; i < WORDS; i++) words[i] = drawn(&seed);
     for (i = 0; reading && i < 2; i++) fill(captures[i], length, (uint32_t)i, words);
 
     for (round = 0; round < rounds; round++) {
         for (side = from; side <= to; side++) {
-            struct timespec start, end;
-            double each;
+            double start = 0, each;
 
-            if (timed) clock_gettime(CLOCK_MONOTONIC, &start);
+            if (timed) start = nanoseconds();
             if (writing) {
                 for (i = 0; i < calls; i++) {
                     sum += writes[side](list, ENTRIES, PLACE, i & 1, words[i % WORDS], (uint32_t)i * 65537);
@@ -126,8 +102,7 @@ int main(int argc, char **argv)
                 for (i = 0; i < calls; i++) sum += checks[side](words[i % WORDS]);
             }
             if (timed) {
-                clock_gettime(CLOCK_MONOTONIC, &end);
-                each = ((double)(end.tv_sec - start.tv_sec) * 1e9 + (double)(end.tv_nsec - start.tv_nsec)) / (double)calls;
+                each = (nanoseconds() - start) / (double)calls;
                 if (round == 0 || each < best[side]) best[side] = each;
             }
         }
@@ -138,11 +113,7 @@ int main(int argc, char **argv)
         /* The sum is looked at here too, so that nothing can be left out of a timed run. */
         fprintf(stderr, "%016llx\n", (unsigned long long)sum);
     } else {
-        char line[18];
-
-        for (i = 0; i < 16; i++) line[i] = "0123456789abcdef"[sum >> (60 - 4 * i) & 15];
-        line[16] = '\n';
-        fwrite(line, 1, 17, stdout);
+        print_sum(sum);
     }
     return 0;
 }

@@ -2,12 +2,22 @@
 //! bench to compare with. Safe Rust but for the C interface at the end.
 #![no_std]
 
+mod device;
+
 /// The refusals, by the scope's numbers.
 #[derive(Clone, Copy)]
 enum Refusal {
     Gap = 1,
     Cut = 2,
     Check = 3,
+    Selector = 4,
+    Tie = 5,
+    Changed = 6,
+    Echo = 7,
+    None = 8,
+    Roles = 9,
+    Register = 10,
+    Turn = 11,
     Room = 12,
     Wide = 13,
     Mode = 14,
@@ -15,6 +25,15 @@ enum Refusal {
 
 /// The kind of an answer that is a page.
 const PAGE: u64 = 0x80;
+
+/// The kind of an answer that orders a page.
+const ORDER: u64 = 0x81;
+
+/// The kind of an answer that is a rate and a role.
+const SETTLED: u64 = 0x82;
+
+/// The kind of an answer that is a register's value.
+const VALUE: u64 = 0x83;
 
 /// The kind of an answer that is a number.
 const NUMBER: u64 = 0x84;
@@ -184,7 +203,9 @@ impl Reader {
         matches!(self, Reader::Open { .. })
     }
 
-    /// Takes an edge; tells the outcome of the attempt that it ended, if it ended one.
+    /// Takes an edge; tells the outcome of the attempt that it ended, if it ended one. Both the walk over a
+    /// capture and the device call it, and by itself the compiler would lay it into neither.
+    #[inline(always)]
     fn edge(&mut self, line: &Line, reading: u32) -> Option<Outcome> {
         match *self {
             Reader::Fresh => {
@@ -323,6 +344,23 @@ pub unsafe extern "C" fn plain_read(
         }
         Err(refusal) => packed(Err(refusal)),
     }
+}
+
+/// As `maststep_run`.
+///
+/// # Safety
+/// `events` points to `cells` cells that nothing writes during the call, and `answers` to `room` entries that
+/// nothing else uses.
+#[no_mangle]
+pub unsafe extern "C" fn plain_run(
+    events: *const u64,
+    cells: usize,
+    answers: *mut u64,
+    room: usize,
+) -> u64 {
+    let events = core::slice::from_raw_parts(events, cells);
+    let answers = core::slice::from_raw_parts_mut(answers, room);
+    packed(device::run(events, answers))
 }
 
 #[panic_handler]
