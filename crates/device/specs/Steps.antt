@@ -7,19 +7,19 @@ use Rattle.resolve.specs.Rates.{rateOrder}
 use Rattle.state.specs.declared.Device.{Device}
 use Rattle.state.specs.Memory.{Due, due}
 use Rattle.registers.specs.Registers.{readDue, writeDue}
-use Rattle.negotiation.specs.declared.profile.Profile.{Profile}
-use Rattle.negotiation.specs.Timers.{lowSpeed}
-use Rattle.negotiation.specs.Edges.{edgeDue}
-use Rattle.negotiation.specs.Ticks.{tickDue}
-use Rattle.negotiation.specs.Sending.{sentDue}
-use Rattle.negotiation.specs.Reports.{reportDue}
+use Rattle.timing.specs.declared.profile.Profile.{Profile}
+use Rattle.timing.specs.Timers.{lowSpeed}
+use Rattle.hearing.specs.Edges.{edgeDue}
+use Rattle.timing.specs.Ticks.{tickDue}
+use Rattle.closing.specs.Sending.{sentDue}
+use Rattle.closing.specs.Reports.{reportDue}
 use Rattle.device.specs.declared.events.Event.{Event}
 use Rattle.device.specs.declared.events.Event.the-variants.{Edge, Tick, Sent, Report, Read, Write, Unnamed}
 
--- One step: what an event has to bring, over a profile's numbers and an ordered list of abilities. (The inhibit numbers are no part of a profile.) "What is not named answers nothing and alters
--- nothing."
+-- One step: what an event has to bring, over a profile's numbers and an ordered list of abilities. (The inhibit numbers are no part of a
+-- profile.) "What is not named answers nothing and alters nothing."
 unfoldable pub stepOver : Profile → List ℕ → Event → Device → Due
-stepOver p order (Edge reading) d = edgeDue p reading d
+stepOver p order (Edge reading) d = edgeDue (p .mode) reading d
 stepOver p order (Tick reading draw) d = tickDue p reading draw d
 stepOver p order (Sent reading) d = sentDue order reading d
 stepOver p order (Report reading up) d = reportDue up reading d

@@ -39,10 +39,10 @@ pub fn step(device: Device, event: Event) -> Reply
     ensures { λ r. ⌜ Meets r (stepDue event device) ⌝ }
 {
     match event {
-        Event::Edge { reading } => negotiation::edge(device, reading),
-        Event::Tick { reading, draw } => negotiation::tick(device, reading, draw),
-        Event::Sent { reading } => negotiation::sent(device, reading),
-        Event::Report { reading, up } => negotiation::report(device, reading, up),
+        Event::Edge { reading } => hearing::edge(device, reading),
+        Event::Tick { reading, draw } => timing::tick(device, reading, draw),
+        Event::Sent { reading } => closing::sent(device, reading),
+        Event::Report { reading, up } => closing::report(device, reading, up),
         Event::Read { reading, register } => registers::read(device, register),
         Event::Write {
             reading,

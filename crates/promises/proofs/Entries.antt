@@ -16,14 +16,13 @@ use Rattle.state.specs.Memory.{Due, due, isOff, intoBreak, intoOff, withState, 
 use Rattle.page.specs.Word.{hasBit}
 use Rattle.resolve.specs.Resolving.{hasOtherSelector, isTie}
 use Rattle.registers.specs.Registers.{registerOf, readDue, commanded, writeDue}
-use Rattle.negotiation.specs.declared.profile.Profile.{Profile}
-use Rattle.negotiation.specs.Timers.{runOut, hasRate, inhibitOf}
-use Rattle.negotiation.specs.Pages.{isChanged}
-use Rattle.negotiation.specs.Changes.{isTalking}
-use Rattle.negotiation.specs.Edges.{echoesOther, pageInAbility, pageInAck, pageIn, listened, edgeDue}
-use Rattle.negotiation.specs.Ticks.{mayOrder, orders, tickIn, tickDue}
-use Rattle.negotiation.specs.Sending.{counted, sentIn, sentDue}
-use Rattle.negotiation.specs.Reports.{reportIn, reportDue}
+use Rattle.gap.specs.declared.modes.LineMode.{LineMode}
+use Rattle.timing.specs.declared.profile.Profile.{Profile}
+use Rattle.timing.specs.Timers.{runOut, inhibitOf}
+use Rattle.hearing.specs.Edges.{isChanged, isTalking, echoesOther, pageInAbility, pageInAck, pageIn, listened, edgeDue}
+use Rattle.timing.specs.Ticks.{mayOrder, orders, tickIn, tickDue}
+use Rattle.closing.specs.Sending.{counted, sentIn, sentDue}
+use Rattle.closing.specs.Reports.{hasRate, reportIn, reportDue}
 use Rattle.device.specs.declared.events.Event.{Event}
 use Rattle.device.specs.declared.events.Event.the-variants.{Edge, Tick, Sent, Report, Read, Write, Unnamed}
 use Rattle.device.specs.Steps.{stepOver}
@@ -80,10 +79,10 @@ module _ (reading : ℕ) where
   unfolding listened
   heard-entry b d = due-if (eqb (b .says .kind) 0x80) (page-entry (d .state) (b .says .value) d b) (stays refl)
 
-  edge-entry : (p : Profile) (d : Device) → Entry false reading d (edgeDue p reading d)
+  edge-entry : (mode : LineMode) (d : Device) → Entry false reading d (edgeDue mode reading d)
   unfolding edgeDue
-  edge-entry p d =
-      due-if (isTalking (d .state) && not (d .talk .out)) (heard-entry (edgeOf (p .mode) (d .reader) reading) d) (stays refl)
+  edge-entry mode d =
+      due-if (isTalking (d .state) && not (d .talk .out)) (heard-entry (edgeOf mode (d .reader) reading) d) (stays refl)
 
   -- Ticks: the inhibit timer in Check-link.
   order-entry : (p : Profile) (word : ℕ) (d : Device) → Entry false reading d (orders p reading word d)
@@ -159,7 +158,7 @@ module _ (reading : ℕ) where
 
 pub step-entry : (p : Profile) (order : List ℕ) (e : Event) (d : Device) → Entry (restarts e) (readingOf e) d (stepOver p order e d)
 unfolding stepOver
-step-entry p order (Edge reading) d = edge-entry reading p d
+step-entry p order (Edge reading) d = edge-entry reading (p .mode) d
 step-entry p order (Tick reading draw) d = tick-entry reading p draw d
 step-entry p order (Sent reading) d = sent-entry reading order d
 step-entry p order (Report reading up) d = report-entry reading up d

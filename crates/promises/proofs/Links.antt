@@ -11,11 +11,12 @@ use Rattle.line.specs.Transitions.{sentBits, hasTransition, positionsTo, transi
 use Rattle.reader.specs.Pattern.{asks, always, byBit, isClock}
 use Rattle.reader.specs.Reading.{edgeOf, arrives, goesOn, dropsOn}
 use Rattle.registers.specs.Registers.{registerOf, statusBits, readDue, commanded, writeDue}
-use Rattle.negotiation.specs.Pages.{wordOf, nonceFor, ownPage, echoingPage, beyondAckAndEcho}
-use Rattle.negotiation.specs.Edges.{pageInAbility, pageInAck, pageIn, listened, edgeDue}
-use Rattle.negotiation.specs.Ticks.{mayOrder, orders, tickDue}
-use Rattle.negotiation.specs.Sending.{counted, sentDue}
-use Rattle.negotiation.specs.Reports.{reportDue}
+use Rattle.state.specs.Memory.{wordOf}
+use Rattle.timing.specs.OwnPages.{nonceFor, ownPage, echoingPage}
+use Rattle.hearing.specs.Edges.{beyondAckAndEcho, pageInAbility, pageInAck, pageIn, listened, edgeDue}
+use Rattle.timing.specs.Ticks.{mayOrder, orders, tickDue}
+use Rattle.closing.specs.Sending.{counted, sentDue}
+use Rattle.closing.specs.Reports.{reportDue}
 use Rattle.device.specs.Steps.{stepOver, saysTo, afterAll}
 use Rattle.promises.specs.FirstLink.{spoken, FirstLink}
 use Rattle.promises.specs.WorkedPasts.{WorkedPasts}

@@ -10,7 +10,7 @@ use Rattle.state.specs.declared.PageRegisters.{PageRegisters}
 use Rattle.state.specs.declared.Device.{Device}
 use Rattle.state.specs.Memory.{freshDevice, intoBreak, withAdvertised}
 use Rattle.registers.specs.Registers.{readDue}
-use Rattle.negotiation.specs.Timers.{lowSpeed}
+use Rattle.timing.specs.Timers.{lowSpeed}
 use Rattle.device.specs.declared.events.Event.{Event}
 use Rattle.device.specs.declared.events.Event.the-variants.{Edge, Tick, Sent, Report, Read, Write, Unnamed}
 use Rattle.device.specs.Steps.{saysTo, afterAll}

@@ -14,10 +14,8 @@ use Rattle.state.specs.declared.State.the-variants.{Off, Break, Ability, Ack, C
 use Rattle.state.specs.declared.Flags.{Flags}
 use Rattle.state.specs.declared.Device.{Device}
 use Rattle.state.specs.Memory.{withState, withReader}
-use Rattle.negotiation.specs.declared.profile.Profile.{Profile}
-use Rattle.negotiation.specs.Pages.{isChanged}
-use Rattle.negotiation.specs.Changes.{isTalking}
-use Rattle.negotiation.specs.Edges.{flagsBy, echoesOther, pageInAbility, pageInAck, pageIn, listened, edgeDue}
+use Rattle.gap.specs.declared.modes.LineMode.{LineMode}
+use Rattle.hearing.specs.Edges.{isChanged, isTalking, flagsBy, echoesOther, pageInAbility, pageInAck, pageIn, listened, edgeDue}
 use Rattle.promises.proofs.Twins.{twin, Alike, alike-if, kept, saying-same}
 use Rattle.promises.specs.TwoPasts.{shifted}
 
@@ -56,9 +54,9 @@ module _ (δ : ℕ) (g : Flags) (reading : ℕ) where
   heard b d =
       alike-if (eqb (b .says .kind) 0x80) (in-state (d .state) (b .says .value) (withReader (b .reader) d)) (saying-same (b .says) kept)
 
-  pub edge-alike : (p : Profile) (d : Device) → Alike δ (d .flags) g (edgeDue p reading d) (edgeDue p (shifted δ reading) (twin δ g d))
+  pub edge-alike : (mode : LineMode) (d : Device) → Alike δ (d .flags) g (edgeDue mode reading d) (edgeDue mode (shifted δ reading) (twin δ g d))
   unfolding edgeDue
-  edge-alike p d =
+  edge-alike mode d =
       alike-if (isTalking (d .state) && not (d .talk .out))
-      (rw (edge-later (p .mode) δ (d .reader) reading) (heard (edgeOf (p .mode) (d .reader) reading) d))
+      (rw (edge-later mode δ (d .reader) reading) (heard (edgeOf mode (d .reader) reading) d))
       (saying-same nothing kept)

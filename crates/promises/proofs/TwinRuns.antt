@@ -11,7 +11,7 @@ use Rattle.resolve.specs.Rates.{rateOrder}
 use Rattle.state.specs.declared.Flags.{Flags}
 use Rattle.state.specs.declared.Device.{Device}
 use Rattle.registers.specs.Registers.{readDue}
-use Rattle.negotiation.specs.Timers.{lowSpeed}
+use Rattle.timing.specs.Timers.{lowSpeed}
 use Rattle.device.specs.declared.events.Event.{Event}
 use Rattle.device.specs.Steps.{stepDue, saysTo, afterAll}
 use Rattle.promises.specs.TwoPasts.{shiftedBy, without6And4, readsStatus, compared, statusWasRead, comparedValue, orderedPages, Same}

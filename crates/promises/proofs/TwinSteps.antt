@@ -9,7 +9,7 @@ use Rattle.state.specs.declared.Flags.{Flags}
 use Rattle.state.specs.declared.Device.{Device}
 use Rattle.state.specs.Memory.{Due}
 use Rattle.registers.specs.Registers.{registerOf, readDue}
-use Rattle.negotiation.specs.declared.profile.Profile.{Profile}
+use Rattle.timing.specs.declared.profile.Profile.{Profile}
 use Rattle.device.specs.declared.events.Event.{Event}
 use Rattle.device.specs.declared.events.Event.the-variants.{Edge, Tick, Sent, Report, Read, Write, Unnamed}
 use Rattle.device.specs.Steps.{stepOver}
@@ -34,7 +34,7 @@ module _ (p : Profile) (order : List ℕ) (δ : ℕ) where
   pub step-alike : (g : Flags) (e : Event) (d : Device) → readsStatus e ≡ false
       → Alike δ (d .flags) g (stepOver p order e d) (stepOver p order (shiftedBy δ e) (twin δ g d))
   unfolding stepOver
-  step-alike g (Edge reading) d other = edge-alike δ g reading p d
+  step-alike g (Edge reading) d other = edge-alike δ g reading (p .mode) d
   step-alike g (Tick reading draw) d other = tick-alike δ g reading p draw d
   step-alike g (Sent reading) d other = sent-alike δ g reading order d
   step-alike g (Report reading up) d other = report-alike δ g reading up d

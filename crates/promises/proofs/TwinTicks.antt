@@ -16,12 +16,12 @@ use Rattle.state.specs.declared.Flags.{Flags}
 use Rattle.state.specs.declared.Talk.{Talk}
 use Rattle.state.specs.declared.Device.{Device}
 use Rattle.state.specs.Memory.{withState}
-use Rattle.negotiation.specs.declared.profile.Profile.{Profile}
-use Rattle.negotiation.specs.Pages.{echoingPage}
-use Rattle.negotiation.specs.Timers.{runOut, hasRate, inhibitOf}
-use Rattle.negotiation.specs.Ticks.{holdsBack, mayOrder, orders, tickIn, tickDue}
-use Rattle.negotiation.specs.Sending.{counted, sentIn, sentDue}
-use Rattle.negotiation.specs.Reports.{reportIn, reportDue}
+use Rattle.timing.specs.declared.profile.Profile.{Profile}
+use Rattle.timing.specs.OwnPages.{echoingPage}
+use Rattle.timing.specs.Timers.{runOut, inhibitOf}
+use Rattle.timing.specs.Ticks.{holdsBack, mayOrder, orders, tickIn, tickDue}
+use Rattle.closing.specs.Sending.{counted, sentIn, sentDue}
+use Rattle.closing.specs.Reports.{hasRate, reportIn, reportDue}
 use Rattle.promises.proofs.Twins.{talkIn, twin, Twins, Alike, twins-if, alike-if, twins-by, alike-by, kept, saying-same}
 use Rattle.promises.specs.TwoPasts.{shifted}
 

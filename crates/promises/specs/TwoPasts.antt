@@ -80,7 +80,7 @@ shiftedBy δ Unnamed = Unnamed
 
 -- "only bits 6 and 4 of 7.513 may differ": an answer whose value is taken without these two.
 unfoldable pub without6And4 : Said → Said
-without6And4 s = saying (s .kind) (s .value % 2 ^ 4 + (s .value / 2 ^ 5 % 2 * 2 ^ 5 + s .value / 2 ^ 7 * 2 ^ 7))
+without6And4 s = saying (s .kind) (s .value % 2 ^ 4 + (((s .value / 2 ^ 5) % 2) * 2 ^ 5 + (s .value / 2 ^ 7) * 2 ^ 7))
 
 -- "up to and with its first read"
 abbrev pub readsStatus : Event → Bool

@@ -30,7 +30,7 @@ pub struct Step {
 }
 
 // The edge opens an attempt.
-fn opened(answer: Answer, reading: u32) -> Step
+pub(crate) fn opened(answer: Answer, reading: u32) -> Step
     ensures { λ r. ⌜ Gives r (bring (said answer) (Open 1 reading 0)) ⌝ }
 {
     Step {
@@ -44,7 +44,7 @@ fn opened(answer: Answer, reading: u32) -> Step
 }
 
 // Edges are dropped from here on.
-fn dropped(answer: Answer, reading: u32) -> Step
+pub(crate) fn dropped(answer: Answer, reading: u32) -> Step
     ensures { λ r. ⌜ Gives r (bring (said answer) (Dropping reading)) ⌝ }
 {
     Step {
@@ -87,7 +87,7 @@ fn arrive(at: u32, bits: u64, reading: u32) -> Step
 }
 
 // An edge so many positions after the last one of an attempt. Most edges follow a clock, so that is looked at first.
-fn step_on(slow: bool, at: u32, k: u32, bits: u64, reading: u32) -> Step
+pub(crate) fn step_on(slow: bool, at: u32, k: u32, bits: u64, reading: u32) -> Step
     requires { ⌜ (1 ≤ k) × (k ≤ 4) ⌝ }
     ensures { λ r. ⌜ Gives r (goesOn slow at bits reading (Positions k)) ⌝ }
 {

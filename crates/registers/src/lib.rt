@@ -3,7 +3,7 @@ ghost use mathlib.Core.Path.{_≡_};
 ghost use mathlib.Core.Bool.{cond};
 ghost use Prim.Native.Nat.{_≤_, _/_, _%_, _^_};
 ghost use lib.Dec.{eqb};
-ghost use Rattle.refusal.specs.Answers.{nothing, refused, registerValue};
+ghost use Rattle.refusal.specs.Answers.{registerValue};
 ghost use Rattle.state.specs.Memory.{Meets, due, isOff, isUp, withAdvertised};
 ghost use Rattle.registers.specs.Registers.{registerOf, statusBits, statusValue, statusRead, readDue, commanded, lowWritten, middleWritten, highWritten, writeDue};
 use refusal::Answer;
@@ -11,6 +11,7 @@ use refusal::Refusal;
 use state::Device;
 use state::Reply;
 use state::State;
+use state::answered;
 use state::enter_break;
 use state::enter_off;
 
@@ -130,36 +131,6 @@ fn after_status(device: Device) -> Device
     after
 }
 
-// A value is answered and nothing changes.
-fn shown(device: Device, value: u16) -> Reply
-    ensures { λ r. ⌜ Meets r (due (registerValue value) device) ⌝ }
-{
-    Reply {
-        answer: Answer::Value(value),
-        device: device,
-    }
-}
-
-// Nothing is answered.
-fn silent(device: Device) -> Reply
-    ensures { λ r. ⌜ Meets r (due nothing device) ⌝ }
-{
-    Reply {
-        answer: Answer::Nothing,
-        device: device,
-    }
-}
-
-// No such register.
-fn missing(device: Device) -> Reply
-    ensures { λ r. ⌜ Meets r (due (refused 10) device) ⌝ }
-{
-    Reply {
-        answer: Answer::Refused(Refusal::Register),
-        device: device,
-    }
-}
-
 // A read of 513.
 fn read_status(device: Device) -> Reply
     ensures { λ r. ⌜ Meets r (due (registerValue (statusValue device)) (statusRead device)) ⌝ }
@@ -171,7 +142,7 @@ fn read_status(device: Device) -> Reply
         device.flags.fault,
         device.talk.latch,
     );
-    shown(after_status(device), value)
+    answered(Answer::Value(value), after_status(device))
 }
 
 // Reads a register.
@@ -180,15 +151,15 @@ pub fn read(device: Device, register: u64) -> Reply
 {
     let state = device.state;
     match register_of(register) {
-        Register::Control => shown(device, control_value(state)),
+        Register::Control => answered(Answer::Value(control_value(state)), device),
         Register::Status => read_status(device),
-        Register::AdvertisedLow => shown(device, device.advertised.low),
-        Register::AdvertisedMiddle => shown(device, device.advertised.middle),
-        Register::AdvertisedHigh => shown(device, device.advertised.high),
-        Register::PartnerLow => shown(device, device.partner.low),
-        Register::PartnerMiddle => shown(device, device.partner.middle),
-        Register::PartnerHigh => shown(device, device.partner.high),
-        Register::Missing => missing(device),
+        Register::AdvertisedLow => answered(Answer::Value(device.advertised.low), device),
+        Register::AdvertisedMiddle => answered(Answer::Value(device.advertised.middle), device),
+        Register::AdvertisedHigh => answered(Answer::Value(device.advertised.high), device),
+        Register::PartnerLow => answered(Answer::Value(device.partner.low), device),
+        Register::PartnerMiddle => answered(Answer::Value(device.partner.middle), device),
+        Register::PartnerHigh => answered(Answer::Value(device.partner.high), device),
+        Register::Missing => answered(Answer::Refused(Refusal::Register), device),
     }
 }
 
@@ -250,14 +221,14 @@ pub fn write(device: Device, register: u64, value: u16, reading: u32) -> Reply
     ensures { λ r. ⌜ Meets r (writeDue register value reading device) ⌝ }
 {
     match register_of(register) {
-        Register::Control => silent(command(device, value, reading)),
-        Register::Status => silent(device),
-        Register::AdvertisedLow => silent(write_low(device, value)),
-        Register::AdvertisedMiddle => silent(write_middle(device, value)),
-        Register::AdvertisedHigh => silent(write_high(device, value)),
-        Register::PartnerLow => silent(device),
-        Register::PartnerMiddle => silent(device),
-        Register::PartnerHigh => silent(device),
-        Register::Missing => missing(device),
+        Register::Control => answered(Answer::Nothing, command(device, value, reading)),
+        Register::Status => answered(Answer::Nothing, device),
+        Register::AdvertisedLow => answered(Answer::Nothing, write_low(device, value)),
+        Register::AdvertisedMiddle => answered(Answer::Nothing, write_middle(device, value)),
+        Register::AdvertisedHigh => answered(Answer::Nothing, write_high(device, value)),
+        Register::PartnerLow => answered(Answer::Nothing, device),
+        Register::PartnerMiddle => answered(Answer::Nothing, device),
+        Register::PartnerHigh => answered(Answer::Nothing, device),
+        Register::Missing => answered(Answer::Refused(Refusal::Register), device),
     }
 }

@@ -1,5 +1,5 @@
 -- 01, "The negotiation (LSM)": what a device remembers, and what entering Break or Off leaves of it.
-use Prim.Native.Nat.{ℕ}
+use Prim.Native.Nat.{ℕ, _+_, _*_, _/_, _%_, _^_}
 use mathlib.Core.Path.{_≡_}
 use mathlib.Core.Bool.{Bool, true, false}
 use Rattle.refusal.specs.Answers.{Said, said}
@@ -49,6 +49,14 @@ isUp Up = true
 -- Three registers that are zero.
 abbrev pub noPage : PageRegisters
 noPage = record { low = 0; middle = 0; high = 0 }
+
+-- 01, "Registers": "514-516: D15-0, D31-16, D47-32": three registers as a word,
+unfoldable pub wordOf : PageRegisters → ℕ
+wordOf r = r .low + (r .middle * 2 ^ 16 + r .high * 2 ^ 32)
+
+-- and a word as three registers.
+abbrev pub registersOf : ℕ → PageRegisters
+registersOf w = record { low = w % 2 ^ 16; middle = (w / 2 ^ 16) % 2 ^ 16; high = (w / 2 ^ 32) % 2 ^ 16 }
 
 -- Nothing of any link: no own page, no held page, no page out, count 0, the link latch clear. The timer stands at the reading given: in Break this
 -- starts the break timer; in Off it is 0 and never looked at. The mark is set anew on leaving Break and not looked at before; until then it is

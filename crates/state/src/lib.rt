@@ -1,6 +1,7 @@
 // What a device remembers, and what is left of it where it goes into Break or Off.
 ghost use mathlib.Core.Path.{_≡_};
-ghost use Rattle.state.specs.Memory.{noPage, noTalk, withoutLink, freshDevice, intoBreak, intoOff};
+ghost use Rattle.refusal.specs.Answers.{said};
+ghost use Rattle.state.specs.Memory.{Meets, due, noPage, noTalk, withoutLink, freshDevice, intoBreak, intoOff};
 use reader::Reader;
 use refusal::Answer;
 
@@ -33,11 +34,11 @@ pub struct Flags {
 pub struct Talk {
     pub own: u64,
     pub held: u64,
-    pub out: bool,
     pub count: u32,
-    pub heard: bool,
     pub mark: u32,
     pub timer: u32,
+    pub out: bool,
+    pub heard: bool,
     pub latch: bool,
 }
 
@@ -57,6 +58,16 @@ pub struct Device {
 pub struct Reply {
     pub answer: Answer,
     pub device: Device,
+}
+
+// An answer with the device afterwards.
+pub fn answered(answer: Answer, device: Device) -> Reply
+    ensures { λ r. ⌜ Meets r (due (said answer) device) ⌝ }
+{
+    Reply {
+        answer: answer,
+        device: device,
+    }
 }
 
 // All zero.

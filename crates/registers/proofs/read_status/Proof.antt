@@ -8,4 +8,4 @@ read-status-spec =
     tie.close
     (tie.spec
     (λ c κs. search needs) (λ c κs. search needs) (λ c κs. search needs) (λ c κs. search needs)
-    (λ c. as-due (c .shown .ensures) (simp (c .before .after-status .ensures, c .before .before .status-value .ensures, c .before .before .before .is-up .ensures))))
+    (λ c. as-due (c .answered .ensures) (simp (c .before .after-status .ensures, c .before .before .status-value .ensures, c .before .before .before .is-up .ensures))))

@@ -1,0 +1,11 @@
+use borrow.Author.Needs.{needs}
+use Rattle.state.proofs.Dues.{as-due}
+use Rattle.closing.proofs.sending.settle.Statement.{statement}
+use Rattle.closing.proofs.sending.settle.Tie as tie
+
+pub settle-spec : {M : Type 1} → statement M
+settle-spec =
+    tie.close
+    (tie.spec
+    (λ c κs. search needs) (λ c κs. search needs)
+    (λ c. as-due (c .answered .ensures) (simp (c .before .before .before .before .before .resolve .ensures .0))))

@@ -1,0 +1,39 @@
+// The edge reader once more, for a device: the same definition, and a body of its own. The compiler lays a function of this size into its caller only where
+// it has just one. With one body for the walk over a capture and for the device, the reader would go through memory at each edge of both.
+ghost use mathlib.Core.Path.{_≡_};
+ghost use Rattle.gap.specs.Clock.{timeBetween};
+ghost use Rattle.gap.specs.Gaps.{judgementOf};
+ghost use Rattle.reader.specs.Reading.{Gives, goesOn, edgeOf};
+use crate::reader::Reader;
+use crate::reader::Step;
+use crate::reader::drop_on;
+use crate::reader::dropped;
+use crate::reader::opened;
+use crate::reader::step_on;
+use gap::Judgement;
+use gap::LineMode;
+use gap::time_between;
+use refusal::Answer;
+use refusal::Refusal;
+
+// A further edge of an attempt.
+fn go_on_alone(mode: LineMode, at: u32, last: u32, bits: u64, reading: u32) -> Step
+    ensures { λ r. ⌜ Gives r (goesOn (mode .slow) at bits reading (judgementOf mode (timeBetween reading last))) ⌝ }
+{
+    match mode.judgement(time_between(reading, last)) {
+        Judgement::Positions(k) => step_on(mode.slow, at, k, bits, reading),
+        Judgement::Quiet => opened(Answer::Refused(Refusal::Cut), reading),
+        Judgement::Unfit => dropped(Answer::Refused(Refusal::Gap), reading),
+    }
+}
+
+// Takes an edge at a clock reading.
+pub fn edge_alone(reader: Reader, mode: LineMode, reading: u32) -> Step
+    ensures { λ r. ⌜ Gives r (edgeOf mode reader reading) ⌝ }
+{
+    match reader {
+        Reader::Fresh => opened(Answer::Nothing, reading),
+        Reader::Open { at, last, bits } => go_on_alone(mode, at, last, bits, reading),
+        Reader::Dropping { last } => drop_on(mode, last, reading),
+    }
+}

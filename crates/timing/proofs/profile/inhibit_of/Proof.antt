@@ -1,0 +1,11 @@
+use borrow.Author.Needs.{needs}
+use Rattle.timing.proofs.profile.inhibit_of.Statement.{statement}
+use Rattle.timing.proofs.profile.inhibit_of.Tie as tie
+
+pub inhibit-of-spec : {M : Type 1} → statement M
+inhibit-of-spec =
+    tie.close
+    (tie.spec
+    (λ c. search needs) (λ c κs. search needs) (λ c. search needs) (λ c. search needs) (λ c. search needs) (λ c. search needs) (λ c. search needs) (λ c. search needs) (λ c. search needs) (λ c. search needs)
+    (λ c. simp (← c .inhibit-for .ensures, c .before .before .outcome .given .1))
+    (λ c. search needs) (λ c. search needs) (λ c. search needs) (λ c. search needs) (λ c. search needs) (λ c. search needs) (λ c. search needs) (λ c. search needs))

@@ -1,0 +1,66 @@
+// The numbers of the timers, and when one has run out.
+ghost use mathlib.Core.Path.{_≡_};
+ghost use Rattle.timing.specs.Timers.{runOut, lowSpeed, inhibitFor, inhibitOf};
+use gap::LineMode;
+use gap::time_between;
+use refusal::Answer;
+
+// The line mode's numbers, and those of the break timer, silent and wait, in ns.
+pub struct Profile {
+    pub mode: LineMode,
+    pub breaking: u32,
+    pub silent: u32,
+    pub wait: u32,
+}
+
+// Low speed, the only one so far.
+pub(crate) fn low_speed() -> Profile
+    ensures { λ r. ⌜ r ≡ lowSpeed ⌝ }
+{
+    Profile {
+        mode: LineMode::lsm(),
+        breaking: 8000000,
+        silent: 33000,
+        wait: 350000,
+    }
+}
+
+// Whether a timer of a number that was started at one reading has run out at another.
+pub(crate) fn run_out(number: u32, start: u32, reading: u32) -> bool
+    ensures { λ r. ⌜ r ≡ runOut number start reading ⌝ }
+{
+    number <= time_between(reading, start)
+}
+
+// The inhibit timer's number for a rate.
+fn inhibit_for(ability: u8) -> u32
+    ensures { λ r. ⌜ r ≡ inhibitFor ability ⌝ }
+{
+    if ability == 1 {
+        return 402000000;
+    }
+    if ability == 22 {
+        return 402000000;
+    }
+    if ability == 9 {
+        return 3060000000;
+    }
+    97500000
+}
+
+// The inhibit timer's number for an outcome.
+pub(crate) fn inhibit_of(outcome: Answer) -> u32
+    ensures { λ r. ⌜ r ≡ inhibitOf outcome ⌝ }
+{
+    match outcome {
+        Answer::Settled { ability, master } => inhibit_for(ability),
+        Answer::Nothing => 97500000,
+        Answer::Refused(refusal) => 97500000,
+        Answer::Page(word) => 97500000,
+        Answer::Order(word) => 97500000,
+        Answer::Value(value) => 97500000,
+        Answer::Number(number) => 97500000,
+        Answer::Quiet => 97500000,
+        Answer::Unfit => 97500000,
+    }
+}
