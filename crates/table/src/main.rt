@@ -1,25 +1,27 @@
 // 01, "Proved in a single table": P1 to P14 through the public calls. Each `expect` is proved true from the contract of the call before it,
 // and tried again when the program runs: a fact that did not hold would end the run before its line is told.
-ghost use mathlib.Core.Path.{_≡_};
 use check::expect;
 use libc::STDOUT_FILENO;
 use state::Device;
 
-// Answers as one number: the kind in the top byte, the value below it.
+// The answers that the table names, as one number each: the kind in the top byte, the value below it. First the numbers of edges,
 const NUMBER_81: u64 = 0x8400_0000_0000_0051;
 
 const NUMBER_85: u64 = 0x8400_0000_0000_0055;
 
 const NUMBER_86: u64 = 0x8400_0000_0000_0056;
 
+// a register's value,
 const REGISTER_0008: u64 = 0x8300_0000_0000_0008;
 
+// refusals, by their numbers in 01's table,
 const TIE: u64 = 0x0500_0000_0000_0000;
 
 const NONE: u64 = 0x0800_0000_0000_0000;
 
 const ROLES: u64 = 0x0900_0000_0000_0000;
-// 1000BASE-T1 is A2; a master has 256 more.
+
+// and rate and role: 1000BASE-T1 is A2, and a master has 256 more.
 const SLAVE_AT_1000BASE_T1: u64 = 0x8200_0000_0000_0002;
 
 const MASTER_AT_1000BASE_T1: u64 = 0x8200_0000_0000_0102;

@@ -10,7 +10,7 @@ time-between-requires : tie.Need-time-between-requires
 time-between-requires c κs = search needs
 
 expect-requires : tie.Need-expect-requires
-expect-requires c κs = eq-eqb (c .time-between .result) 30 (c .time-between .ensures ∙ table .p5)
+expect-requires c κs = eq-eqb (c .time-between .result) _ (c .time-between .ensures ∙ table .p5)
 
 slice-aggregate-tell : tie.Need-slice-aggregate-tell
 slice-aggregate-tell c = search needs

@@ -26,7 +26,7 @@ array-read-expect : tie.Need-array-read-expect
 array-read-expect c = search needs
 
 expect-requires-2 : tie.Need-expect-requires-2
-expect-requires-2 c κs = eq-eqb _ 0 (ap (λ (l : List ℕ). getD l 0 0) (c .before .before .before .write .ensures .1) ∙ p6 .first)
+expect-requires-2 c κs = eq-eqb _ _ (ap (λ (l : List ℕ). getD l 0 0) (c .before .before .before .write .ensures .1) ∙ p6 .first)
 
 array-read-expect-2 : tie.Need-array-read-expect-2
 array-read-expect-2 c = search needs
@@ -38,7 +38,7 @@ array-read-expect-3 : tie.Need-array-read-expect-3
 array-read-expect-3 c = search needs
 
 expect-requires-4 : tie.Need-expect-requires-4
-expect-requires-4 c κs = eq-eqb _ 1 (ap (λ (l : List ℕ). getD l 81 0) (c .before .before .before .before .before .write .ensures .1) ∙ p6 .after)
+expect-requires-4 c κs = eq-eqb _ _ (ap (λ (l : List ℕ). getD l 81 0) (c .before .before .before .before .before .write .ensures .1) ∙ p6 .after)
 
 slice-aggregate-tell : tie.Need-slice-aggregate-tell
 slice-aggregate-tell c = search needs
