@@ -1,0 +1,2 @@
+pub mod PageWritten
+pub mod TablePages
