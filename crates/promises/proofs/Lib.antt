@@ -10,3 +10,4 @@ pub mod NoPageOutlives
 pub mod GoodAsNew
 pub mod TheTable
 pub mod Links
+pub mod Refused

@@ -36,10 +36,11 @@ abbrev pub toComplete : List Event
 toComplete = toAck ++ pageFrom 8200000 0xA940A1
 
 -- three pages are ordered and sent;
+abbrev pub threeSent : List Event
+threeSent = Tick 8400000 0 ∷ Sent 8524800 ∷ Tick 8874800 0 ∷ Sent 8999600 ∷ Tick 9349600 0 ∷ Sent 9474400 ∷ []
+
 abbrev pub toCheckLink : List Event
-toCheckLink =
-    toComplete
-    ++ (Tick 8400000 0 ∷ Sent 8524800 ∷ Tick 8874800 0 ∷ Sent 8999600 ∷ Tick 9349600 0 ∷ Sent 9474400 ∷ [])
+toCheckLink = toComplete ++ threeSent
 
 -- the link comes up; the registers 513, 517 and 518 are read.
 abbrev pub toUp : List Event
