@@ -2,7 +2,7 @@
 use Prim.Native.Nat.{ℕ}
 use mathlib.Core.Path.{_≡_, refl, ap}
 use mathlib.Core.Bool.{false, xor}
-use mathlib.Core.List.{List, []}
+use mathlib.Core.List.{List}
 use Rattle.refusal.specs.Answers.{refused}
 use Rattle.page.specs.Fields.{part, withPart}
 use Rattle.check_bits.specs.CheckBits.{remainder, checkList, checkBits, agrees}
@@ -29,7 +29,7 @@ use Rattle.device.specs.declared.events.Event.the-variants.{Sent, Read, Write}
 use Rattle.device.specs.Steps.{stepOver, stepDue, saysTo, afterAll}
 use Rattle.device.specs.Runs.{eventOf, eventsOf, runSays, runLeaves}
 use Rattle.listing_text.specs.Listing.{refusedLine, listing}
-use Rattle.promises.specs.FirstLink.{spoken, toBreak, toAck}
+use Rattle.promises.specs.FirstLink.{spoken, toAck}
 use Rattle.promises.specs.Refusals.{Kept, EachRefusal}
 
 -- An event that is refused and changes nothing, whatever has come before.

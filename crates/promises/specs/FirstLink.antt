@@ -9,7 +9,7 @@ use Rattle.refusal.specs.Answers.{Said, pageRead, pageOrdered, settledOn, regis
 use Rattle.gap.specs.Modes.{lsmMode}
 use Rattle.line.specs.Transitions.{readings}
 use Rattle.state.specs.declared.State.{State}
-use Rattle.state.specs.declared.State.the-variants.{Off, Break, Ability, Ack, Complete, CheckLink, Up}
+use Rattle.state.specs.declared.State.the-variants.{Break, Ability, Ack, Complete, CheckLink, Up}
 use Rattle.state.specs.Memory.{freshDevice}
 use Rattle.device.specs.declared.events.Event.{Event}
 use Rattle.device.specs.declared.events.Event.the-variants.{Edge, Tick, Sent, Report, Read, Write}
