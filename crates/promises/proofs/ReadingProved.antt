@@ -19,7 +19,7 @@ use Rattle.gap.specs.Delimiters.{hsmDelimiter, lsmDelimiter}
 use Rattle.gap.specs.Modes.{hsmMode, lsmMode, modeOf, saysBy}
 use Rattle.gap.specs.Gaps.{within, judgementOf}
 use Rattle.gap.proofs.Windows.{Apart, Near, hsm-apart, lsm-apart, counts-quiet}
-use Rattle.line.specs.Transitions.{transitions, sentBits, edgeCount}
+use Rattle.line.specs.Transitions.{transitions, sentBits, readings, edgeCount}
 use Rattle.line.specs.Writing.{saysIn, writeSays}
 use Rattle.reader.specs.declared.reader.Reader.{Reader}
 use Rattle.reader.specs.declared.reader.Reader.the-variants.{Fresh, Open, Dropping}
@@ -32,7 +32,7 @@ use Rattle.reading.proofs.SentGaps.{afterClock, transitions-listed}
 use Rattle.reading.proofs.SinceOpened.{SaidPage}
 use Rattle.reading.proofs.ReadTheorem.{ReadsBack, reads-back}
 use Rattle.reading.proofs.ReadCalls as calls
-use Rattle.reading.proofs.WriteThenRead.{write-then-read}
+use Rattle.reading.proofs.WriteThenRead.{written-sends, write-then-read}
 use Rattle.reading.proofs.Walk as walk
 use Rattle.promises.specs.FirstLink.{spoken}
 use Rattle.promises.specs.ReadingBack.{fitsBehind, fits, Carries, saysAlong, readerAfter, atTheLast, EndsWith, BeginsWith, callsFrom, atTheEnd, ReadingBack}
@@ -165,10 +165,11 @@ same-told m edges =
     (ap walk.spoken (sym (same-says m Fresh edges)) ∙ sym (same-spoken (saysAlong m Fresh edges)))
     (sym (same-reader m Fresh edges))
 
--- Over any numbers whose windows lie apart, and any number that names them.
-pub reading-back : (mode : ℕ) (m : LineMode) → modeOf mode ≡ Known m → Apart m → ReadingBack mode m
-reading-back mode m known apart =
+-- Over any numbers whose windows lie apart, four spacings being less than the clock's round, and any number that names them.
+pub reading-back : (mode : ℕ) (m : LineMode) → modeOf mode ≡ Known m → Apart m → 4 * m .spacing < 2 ^ 32 → ReadingBack mode m
+reading-back mode m known apart clock =
     record {
+      nominal = λ w first. sends-carries m w (readings m w first) (written-sends m first clock w);
       fresh = λ w edges word carried. same-says m Fresh edges ∙ back .fresh w edges word (carries-sends m w edges carried) .said;
       after-quiet = λ past last x w edges q word carried.
           after (readerAfter m Fresh (past ++ (last ∷ []))) x w edges
@@ -228,8 +229,8 @@ reading-back mode m known apart =
 
 pub high-speed-back : ReadingBack 0 hsmMode
 unfolding modeOf
-high-speed-back = reading-back 0 hsmMode refl hsm-apart
+high-speed-back = reading-back 0 hsmMode refl hsm-apart (omega arith)
 
 pub low-speed-back : ReadingBack 1 lsmMode
 unfolding modeOf
-low-speed-back = reading-back 1 lsmMode refl lsm-apart
+low-speed-back = reading-back 1 lsmMode refl lsm-apart (omega arith)

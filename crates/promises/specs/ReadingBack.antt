@@ -10,7 +10,7 @@ use Rattle.refusal.specs.Answers.{Said, nothing, refused, pageRead, number}
 use Rattle.gap.specs.declared.modes.LineMode.{LineMode}
 use Rattle.gap.specs.Clock.{timeBetween}
 use Rattle.gap.specs.Gaps.{within}
-use Rattle.line.specs.Transitions.{transitions, edgeCount}
+use Rattle.line.specs.Transitions.{transitions, readings, edgeCount}
 use Rattle.line.specs.Writing.{writeSays, writeLeaves}
 use Rattle.reader.specs.declared.reader.Reader.{Reader}
 use Rattle.reader.specs.declared.reader.Reader.the-variants.{Fresh}
@@ -80,6 +80,8 @@ atTheEnd r = cond (isOpen r) (refused 2 ∷ []) []
 
 -- What holds of a mode's number and the mode that it names.
 pub record ReadingBack (mode : ℕ) (m : LineMode) : Type 0 where
+  -- A page at nominal spacing lies within the windows, from any first reading on.
+  pub nominal : (w first : ℕ) → Carries m w (readings m w first)
   -- Every word's page, each gap in its window, is read by a fresh reader: nothing is said until its last edge, and there the word.
   pub fresh : (w : ℕ) (edges : List ℕ) → w < 2 ^ 48 → Carries m w edges → saysAlong m Fresh edges ≡ atTheLast edges (pageRead w)
   -- So it is after any other edges, if quiet lies between. "A quiet gap in an attempt ends it (Cut), and that edge opens the next."
