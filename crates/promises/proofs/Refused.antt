@@ -15,6 +15,7 @@ use Rattle.line.specs.Transitions.{sentBits, hasTransition, positionsTo, transi
 use Rattle.line.specs.Writing.{saysIn, leavesIn, writeSays, writeLeaves}
 use Rattle.reader.specs.Pattern.{asks, always, byBit, isClock}
 use Rattle.reader.specs.Reading.{edgeOf, arrives, goesOn, dropsOn}
+use Rattle.reading.specs.Captures.{readIn, readOf}
 use Rattle.state.specs.declared.State.the-variants.{Ack}
 use Rattle.state.specs.declared.Device.{Device}
 use Rattle.state.specs.Memory.{Due, due, freshDevice, wordOf}
@@ -49,12 +50,12 @@ unfolding stepOver sentDue
 nothing-out reading d state out = rw (state, out)
 
 pub each-refusal : EachRefusal
-unfolding spoken afterAll saysTo stepOver tickDue writeDue sentDue reportDue registerOf commanded ownPage echoingPage nonceFor wordOf beyondAckAndEcho part withPart edgeDue listened edgeOf goesOn dropsOn judgementOf asks always byBit arrives isClock agrees checkBits checkList remainder xor readings transitions positionsTo hasTransition sentBits pageIn pageInAbility pageInAck mayOrder orders counted resolutionOf hasAbility roleOf writeSays writeLeaves saysIn leavesIn edgeCount modeOf runSays runLeaves eventsOf eventOf listing refusedLine
+unfolding spoken afterAll saysTo stepOver tickDue writeDue sentDue reportDue registerOf commanded ownPage echoingPage nonceFor wordOf beyondAckAndEcho part withPart edgeDue listened edgeOf goesOn dropsOn judgementOf asks always byBit arrives isClock agrees checkBits checkList remainder xor readings transitions positionsTo hasTransition sentBits pageIn pageInAbility pageInAck mayOrder orders counted resolutionOf hasAbility roleOf writeSays writeLeaves saysIn leavesIn edgeCount modeOf readOf readIn runSays runLeaves eventsOf eventOf listing refusedLine
 each-refusal =
     record {
-      gap = record { said = refl; left = refl };
-      cut = record { said = refl; left = refl };
-      check = record { said = refl; left = refl };
+      gap = record { run = record { said = refl; left = refl }; left = refl };
+      cut = record { run = record { said = refl; left = refl }; left = refl };
+      check = record { run = record { said = refl; left = refl }; left = refl };
       selector = record { said = refl; left = refl };
       tie = record { said = refl; left = refl };
       changed = record { said = refl; left = refl };
@@ -66,6 +67,7 @@ each-refusal =
       turn-off = record { says = refl; kept = refl };
       turn-break = record { says = refl; kept = refl };
       turn-no-page = kept toAck (Sent 8200000) 11 (nothing-out 8200000 (afterAll freshDevice toAck) refl refl);
+      room-read = refl;
       room-past-end = record { says = refl; kept = refl };
       room-fewer = record { says = refl; kept = refl };
       room-run = (refl, refl);

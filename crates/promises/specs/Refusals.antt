@@ -9,6 +9,9 @@ use Rattle.page.specs.Word.{bitsOf}
 use Rattle.gap.specs.Modes.{lsmMode}
 use Rattle.line.specs.Transitions.{hasTransition, positionsTo, readingAt}
 use Rattle.line.specs.Writing.{writeSays, writeLeaves}
+use Rattle.reader.specs.declared.reader.Reader.{Reader}
+use Rattle.reader.specs.declared.reader.Reader.the-variants.{Open, Dropping}
+use Rattle.reading.specs.Captures.{readOf}
 use Rattle.state.specs.declared.State.{State}
 use Rattle.state.specs.declared.State.the-variants.{Break, Ability, CheckLink}
 use Rattle.state.specs.Memory.{freshDevice}
@@ -23,6 +26,11 @@ use Rattle.promises.specs.FirstLink.{pageFrom, toBreak, toAbility, toAck
 pub record Run (events : List Event) (says : List Said) (state : State) : Type 0 where
   pub said : spoken (saysTo freshDevice events) ≡ says
   pub left : stateAfter events ≡ state
+
+-- Of an attempt that is refused in Ability: what is said, "attempt ended; state as above", and the reader that is left.
+pub record Ended (events : List Event) (n : ℕ) (reader : Reader) : Type 0 where
+  pub run : Run events (refused n ∷ []) Ability
+  pub left : afterAll freshDevice events .reader ≡ reader
 
 -- One more event after others: it is refused with this number, and the device is kept as it was, all of it.
 pub record Kept (past : List Event) (event : Event) (n : ℕ) : Type 0 where
@@ -49,12 +57,12 @@ settlingWith low middle word =
     ++ (pageFrom 8001000 word ++ (pageFrom 8200000 (word + 0x40A0) ++ (threeSent ++ (Report 9500000 true ∷ []))))
 
 pub record EachRefusal : Type 0 where
-  -- 1, Gap: a gap of 1100 ns is unfit. "attempt ended; state as above"
-  pub gap : Run (toAbility ++ (Edge 8001000 ∷ Edge 8002100 ∷ [])) (refused 1 ∷ []) Ability
-  -- 2, Cut: a gap of 3441 ns is quiet.
-  pub cut : Run (toAbility ++ (Edge 8001000 ∷ Edge 8004441 ∷ [])) (refused 2 ∷ []) Ability
-  -- 3, Check: the check bits of A90001 are not zero.
-  pub check : Run (toAbility ++ pageUnchecked 8001000 0xA90001) (refused 3 ∷ []) Ability
+  -- 1, Gap: a gap of 1100 ns is unfit. Edges are dropped from then on.
+  pub gap : Ended (toAbility ++ (Edge 8001000 ∷ Edge 8002100 ∷ [])) 1 (Dropping 8002100)
+  -- 2, Cut: a gap of 3441 ns is quiet. "that edge opens the next"
+  pub cut : Ended (toAbility ++ (Edge 8001000 ∷ Edge 8004441 ∷ [])) 2 (Open 1 8004441 0)
+  -- 3, Check: the check bits of A90001 are not zero. Position 157 is 124 800 ns after the first.
+  pub check : Ended (toAbility ++ pageUnchecked 8001000 0xA90001) 3 (Dropping 8125800)
   -- 4, Selector: a page with S = 2. "device stays"
   pub selector : Run (toAbility ++ pageFrom 8001000 0xA90002) (refused 4 ∷ []) Ability
   -- 5, Tie: the partner has drawn 5 as well. "Break"
@@ -77,6 +85,7 @@ pub record EachRefusal : Type 0 where
   pub turn-break : Kept toBreak (Sent 1) 11
   pub turn-no-page : Kept toAck (Sent 8200000) 11
   -- 12, Room: "place past the end; writing: entries from it on fewer than the page's; list kept". The zero page has 81 at high speed.
+  pub room-read : readOf 0 (replicate 81 7) 82 .says ≡ refused 12
   pub room-past-end : ListKept 0 (replicate 81 7) 82 0 12
   pub room-fewer : ListKept 0 (replicate 80 7) 0 0 12
   -- A run of one event, a tick, with no room for its answer.
