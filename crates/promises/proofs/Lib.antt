@@ -10,3 +10,8 @@ pub mod NoPageOutlives
 pub mod GoodAsNew
 pub mod TheTable
 pub mod Links
+pub mod Refused
+pub mod ReadingProved
+pub mod PagesApart
+pub mod EndsAgree
+pub mod TheDemands

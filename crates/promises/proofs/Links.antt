@@ -24,7 +24,7 @@ use Rattle.promises.specs.WorkedPasts.{WorkedPasts}
 pub first-link : FirstLink
 unfolding spoken afterAll saysTo stepOver tickDue writeDue readDue sentDue reportDue registerOf commanded statusBits ownPage echoingPage nonceFor wordOf beyondAckAndEcho part withPart edgeDue listened edgeOf goesOn dropsOn judgementOf asks always byBit arrives isClock agrees checkBits checkList remainder xor readings transitions positionsTo hasTransition sentBits pageIn pageInAbility pageInAck mayOrder orders counted resolutionOf hasAbility roleOf
 first-link =
-    record { break = refl; ability = refl; ack = refl; complete = refl; check-link = refl; up = refl; says = refl }
+    record { break = refl; ability = refl; ack = refl; complete = refl; check-link = refl; outcome = refl; up = refl; says = refl }
 
 pub worked-pasts : WorkedPasts
 unfolding afterAll saysTo stepOver tickDue writeDue readDue sentDue reportDue registerOf commanded statusBits ownPage echoingPage nonceFor wordOf beyondAckAndEcho part withPart edgeDue listened edgeOf goesOn dropsOn judgementOf asks always byBit arrives isClock agrees checkBits checkList remainder xor readings transitions positionsTo hasTransition sentBits pageIn pageInAbility pageInAck mayOrder orders counted resolutionOf hasAbility roleOf

@@ -5,11 +5,12 @@ use mathlib.Core.Path.{_≡_}
 use mathlib.Core.Bool.{true, false, cond}
 use mathlib.Core.List.{List, [], _∷_, _++_, map}
 use lib.Dec.{eqb}
+use Rattle.refusal.specs.declared.Answer.the-variants.{Settled}
 use Rattle.refusal.specs.Answers.{Said, pageRead, pageOrdered, settledOn, registerValue}
 use Rattle.gap.specs.Modes.{lsmMode}
 use Rattle.line.specs.Transitions.{readings}
 use Rattle.state.specs.declared.State.{State}
-use Rattle.state.specs.declared.State.the-variants.{Off, Break, Ability, Ack, Complete, CheckLink, Up}
+use Rattle.state.specs.declared.State.the-variants.{Break, Ability, Ack, Complete, CheckLink, Up}
 use Rattle.state.specs.Memory.{freshDevice}
 use Rattle.device.specs.declared.events.Event.{Event}
 use Rattle.device.specs.declared.events.Event.the-variants.{Edge, Tick, Sent, Report, Read, Write}
@@ -36,10 +37,11 @@ abbrev pub toComplete : List Event
 toComplete = toAck ++ pageFrom 8200000 0xA940A1
 
 -- three pages are ordered and sent;
+abbrev pub threeSent : List Event
+threeSent = Tick 8400000 0 ∷ Sent 8524800 ∷ Tick 8874800 0 ∷ Sent 8999600 ∷ Tick 9349600 0 ∷ Sent 9474400 ∷ []
+
 abbrev pub toCheckLink : List Event
-toCheckLink =
-    toComplete
-    ++ (Tick 8400000 0 ∷ Sent 8524800 ∷ Tick 8874800 0 ∷ Sent 8999600 ∷ Tick 9349600 0 ∷ Sent 9474400 ∷ [])
+toCheckLink = toComplete ++ threeSent
 
 -- the link comes up; the registers 513, 517 and 518 are read.
 abbrev pub toUp : List Event
@@ -56,7 +58,7 @@ spoken (s ∷ rest) = let more = spoken rest in cond (eqb (s .kind) 0) more (s �
 abbrev pub stateAfter : List Event → State
 stateAfter events = afterAll freshDevice events .state
 
--- The states, and all that is said on the way: two pages read, the own page ordered three times with Ack 1 and the partner's nonce, 9, echoed,
+-- The states, the outcome that is kept, and all that is said on the way: two pages read, the own page ordered three times with Ack 1 and the partner's nonce, 9, echoed,
 -- 1000BASE-T1 and slave (P9), and the registers: 513 with Page received, complete and, once it was read, the link latch; 517 and 518 with D15-0
 -- and D31-16 of the page that was acknowledged.
 pub record FirstLink : Type 0 where
@@ -65,6 +67,7 @@ pub record FirstLink : Type 0 where
   pub ack : stateAfter toAck ≡ Ack
   pub complete : stateAfter toComplete ≡ Complete
   pub check-link : stateAfter toCheckLink ≡ CheckLink
+  pub outcome : afterAll freshDevice toCheckLink .outcome ≡ Settled 2 false
   pub up : stateAfter toUp ≡ Up
   pub says : spoken (saysTo freshDevice (toUp ++ reads))
       ≡ pageRead 0xA90001 ∷ pageRead 0xA940A1 ∷ pageOrdered 0x854121 ∷ pageOrdered 0x854121 ∷ pageOrdered 0x854121 ∷ settledOn 2 false ∷ registerValue 0x68

@@ -1,5 +1,10 @@
+pub mod ReadingBack
+pub mod SmallDamage
+pub mod BothEnds
 pub mod TwoPasts
 pub mod AsIfNew
-pub mod FirstLink
 pub mod WorkedPasts
 pub mod Table
+pub mod FirstLink
+pub mod Refusals
+pub mod Demands

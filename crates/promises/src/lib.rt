@@ -1,7 +1,12 @@
 // The promises on the module as a whole. They are stated in specs/ and proved in proofs/; there is no code.
 //
-// specs/TwoPasts     the customer's demand 3: no page outlives its link
-// specs/AsIfNew      what it comes to for one module: after Break it is as good as new
-// specs/FirstLink    a link from a fresh device through every state to Up
+// specs/Demands      the customer's three demands, in one place: all that follows here
+// specs/ReadingBack  demand 2 for the line: a page sent is read as itself, and nothing else is read as a page
+// specs/SmallDamage  what the check bits are worth: no small damage makes another page of a page
+// specs/BothEnds     the two ends of a link settle on the same rate, with opposite roles
+// specs/TwoPasts     demand 3: no page outlives its link
+// specs/AsIfNew      what it comes to for one module: after Break no answer depends on any page heard before it
 // specs/WorkedPasts  two pasts for which demand 3 is worked out
 // specs/Table        P1-P14
+// specs/FirstLink    a link from a fresh device through every state to Up
+// specs/Refusals     an input for each refusal number, and what it leaves

@@ -1,0 +1,47 @@
+-- The check bits and what they are worth, from the laws on remainders and on damage.
+use Prim.Native.Nat.{ℕ, zero, suc, _+_, _%_, _^_, _<_, _≤_}
+use mathlib.Core.Path.{_≡_, refl, sym, ap, _∙_, subst}
+use mathlib.Core.Bool.{Bool, true, false, cond, xor}
+use mathlib.Core.List.{List, [], _∷_, _++_}
+use lib.ListN.{length, replicate}
+use Rattle.page.specs.Word.{bitsOf}
+use Rattle.check_bits.specs.CheckBits.{plus, checkList}
+use Rattle.check_bits.proofs.Remainders.{scaled, times, quotient, divisible, no-other}
+use Rattle.check_bits.proofs.Strength.{differing}
+use Rattle.gap.specs.Delimiters.{among}
+use Rattle.line.specs.Transitions.{transitions}
+use Rattle.line.proofs.Damage.{hasAt, pages-apart}
+use Rattle.promises.specs.SmallDamage.{multipleBy, changedBelow, FarApart, SmallDamage}
+
+same-multiple : (q : List Bool) → multipleBy q ≡ times q
+unfolding xor
+same-multiple [] = refl
+same-multiple (true ∷ q) = ap (λ (p : List Bool). true ∷ plus (scaled true) p) (same-multiple q)
+same-multiple (false ∷ q) = ap (λ (p : List Bool). false ∷ p) (same-multiple q)
+
+same-changed : (n : ℕ) (page other : List ℕ) → changedBelow n page other ≡ differing n (hasAt page) (hasAt other)
+unfolding changedBelow differing
+same-changed zero page other = refl
+same-changed (suc p) page other = ap (λ (k : ℕ). cond (xor (among p page) (among p other)) 1 0 + k) (same-changed p page other)
+
+check-multiple : (w : ℕ) → (q : List Bool) × (multipleBy q ≡ bitsOf 48 w ++ checkList w)
+unfolding checkList
+check-multiple w =
+    let q = quotient (length (bitsOf 48 w)) (bitsOf 48 w ++ replicate 16 false) in (q, same-multiple q ∙ divisible (bitsOf 48 w))
+
+check-alone : (w : ℕ) (q bits : List Bool) → length bits ≡ 16 → multipleBy q ≡ bitsOf 48 w ++ bits → bits ≡ checkList w
+unfolding checkList
+check-alone w q bits long e = no-other (bitsOf 48 w) bits q long (sym (same-multiple q) ∙ e)
+
+far-apart : (slow : Bool) (w v : ℕ) → w < 2 ^ 48 → v < 2 ^ 48 → (w ≡ v → ⊥) → FarApart (transitions slow w) (transitions slow v)
+far-apart slow w v word word′ other =
+    let apart = pages-apart w v word word′ other slow in
+    let counted = same-changed 158 (transitions slow w) (transitions slow v) in
+    record {
+      even = ap (λ (n : ℕ). n % 2) counted ∙ apart .even;
+      four = subst (λ (n : ℕ). 4 ≤ n) (sym counted) (apart .four);
+      spread = apart .spread;
+    }
+
+pub small-damage : SmallDamage
+small-damage = record { divides = check-multiple; no-other = check-alone; apart = far-apart }

@@ -1,0 +1,79 @@
+-- An input for each refusal number, computed from the definitions. That an event leaves a device as it was is shown of any device.
+use Prim.Native.Nat.{ℕ}
+use mathlib.Core.Path.{_≡_, refl, ap}
+use mathlib.Core.Bool.{false, xor}
+use mathlib.Core.List.{List}
+use Rattle.refusal.specs.Answers.{refused}
+use Rattle.page.specs.Fields.{part, withPart}
+use Rattle.check_bits.specs.CheckBits.{remainder, checkList, checkBits, agrees}
+use Rattle.resolve.specs.Rates.{hasAbility}
+use Rattle.resolve.specs.Roles.{roleOf}
+use Rattle.resolve.specs.Resolving.{resolutionOf}
+use Rattle.gap.specs.Modes.{modeOf}
+use Rattle.gap.specs.Gaps.{judgementOf}
+use Rattle.line.specs.Transitions.{sentBits, hasTransition, positionsTo, transitions, readings, edgeCount}
+use Rattle.line.specs.Writing.{saysIn, leavesIn, writeSays, writeLeaves}
+use Rattle.reader.specs.Pattern.{asks, always, byBit, isClock}
+use Rattle.reader.specs.Reading.{edgeOf, arrives, goesOn, dropsOn}
+use Rattle.reading.specs.Captures.{readIn, readOf}
+use Rattle.state.specs.declared.State.the-variants.{Ack}
+use Rattle.state.specs.declared.Device.{Device}
+use Rattle.state.specs.Memory.{Due, due, freshDevice, wordOf}
+use Rattle.registers.specs.Registers.{registerOf, readDue, commanded, writeDue}
+use Rattle.timing.specs.OwnPages.{nonceFor, ownPage, echoingPage}
+use Rattle.hearing.specs.Edges.{beyondAckAndEcho, pageInAbility, pageInAck, pageIn, listened, edgeDue}
+use Rattle.timing.specs.Ticks.{mayOrder, orders, tickDue}
+use Rattle.closing.specs.Sending.{counted, sentDue}
+use Rattle.closing.specs.Reports.{reportDue}
+use Rattle.device.specs.declared.events.Event.{Event}
+use Rattle.device.specs.declared.events.Event.the-variants.{Sent, Read, Write}
+use Rattle.device.specs.Steps.{stepOver, stepDue, saysTo, afterAll}
+use Rattle.device.specs.Runs.{eventOf, eventsOf, runSays, runLeaves}
+use Rattle.listing_text.specs.Listing.{refusedLine, listing}
+use Rattle.promises.specs.FirstLink.{spoken, toAck}
+use Rattle.promises.specs.Refusals.{Kept, EachRefusal}
+
+-- An event that is refused and changes nothing, whatever has come before.
+kept : (past : List Event) (event : Event) (n : ℕ) → stepDue event (afterAll freshDevice past) ≡ due (refused n) (afterAll freshDevice past) → Kept past event n
+kept past event n e = record { says = ap (λ (x : Due). x .says) e; kept = ap (λ (x : Due). x .device) e }
+
+no-register-read : (reading : ℕ) (d : Device) → stepDue (Read reading 520) d ≡ due (refused 10) d
+unfolding stepOver readDue registerOf
+no-register-read reading d = refl
+
+no-register-written : (reading : ℕ) (d : Device) → stepDue (Write reading 511 1) d ≡ due (refused 10) d
+unfolding stepOver writeDue registerOf
+no-register-written reading d = refl
+
+nothing-out : (reading : ℕ) (d : Device) → d .state ≡ Ack → d .talk .out ≡ false → stepDue (Sent reading) d ≡ due (refused 11) d
+unfolding stepOver sentDue
+nothing-out reading d state out = rw (state, out)
+
+pub each-refusal : EachRefusal
+unfolding spoken afterAll saysTo stepOver tickDue writeDue sentDue reportDue registerOf commanded ownPage echoingPage nonceFor wordOf beyondAckAndEcho part withPart edgeDue listened edgeOf goesOn dropsOn judgementOf asks always byBit arrives isClock agrees checkBits checkList remainder xor readings transitions positionsTo hasTransition sentBits pageIn pageInAbility pageInAck mayOrder orders counted resolutionOf hasAbility roleOf writeSays writeLeaves saysIn leavesIn edgeCount modeOf readOf readIn runSays runLeaves eventsOf eventOf listing refusedLine
+each-refusal =
+    record {
+      gap = record { run = record { said = refl; left = refl }; left = refl };
+      cut = record { run = record { said = refl; left = refl }; left = refl };
+      check = record { run = record { said = refl; left = refl }; left = refl };
+      selector = record { said = refl; left = refl };
+      tie = record { said = refl; left = refl };
+      changed = record { said = refl; left = refl };
+      echo = record { said = refl; left = refl };
+      none = record { said = refl; left = refl };
+      roles = record { said = refl; left = refl };
+      register-read = kept toAck (Read 8200000 520) 10 (no-register-read 8200000 (afterAll freshDevice toAck));
+      register-written = kept toAck (Write 8200000 511 1) 10 (no-register-written 8200000 (afterAll freshDevice toAck));
+      turn-off = record { says = refl; kept = refl };
+      turn-break = record { says = refl; kept = refl };
+      turn-no-page = kept toAck (Sent 8200000) 11 (nothing-out 8200000 (afterAll freshDevice toAck) refl refl);
+      room-read = refl;
+      room-past-end = record { says = refl; kept = refl };
+      room-fewer = record { says = refl; kept = refl };
+      room-run = (refl, refl);
+      wide = record { says = refl; kept = refl };
+      mode = record { says = refl; kept = refl };
+      mode-first = record { says = refl; kept = refl };
+      wide-next = record { says = refl; kept = refl };
+      odd = refl;
+    }

@@ -1,0 +1,25 @@
+-- The customer's demands hold.
+use Rattle.promises.specs.Demands.{Demands}
+use Rattle.promises.proofs.ReadingProved.{high-speed-back, low-speed-back}
+use Rattle.promises.proofs.PagesApart.{small-damage}
+use Rattle.promises.proofs.EndsAgree.{both-ends}
+use Rattle.promises.proofs.NoPageOutlives.{no-page-outlives-its-link}
+use Rattle.promises.proofs.GoodAsNew.{as-if-new}
+use Rattle.promises.proofs.TheTable.{table}
+use Rattle.promises.proofs.Links.{first-link, worked-pasts}
+use Rattle.promises.proofs.Refused.{each-refusal}
+
+pub demands : Demands
+demands =
+    record {
+      high-speed = high-speed-back;
+      low-speed = low-speed-back;
+      small-damage = small-damage;
+      both-ends = both-ends;
+      no-page-outlives-its-link = no-page-outlives-its-link;
+      as-if-new = as-if-new;
+      worked-pasts = worked-pasts;
+      table = table;
+      first-link = first-link;
+      each-refusal = each-refusal;
+    }

@@ -1,0 +1,38 @@
+-- The customer's three demands, in one place.
+--
+-- Demand 1, "Nobody checks anything beforehand", is no field here. Each function's contract holds it: it is proved at every input that the function is safe, ends
+-- and answers what its definition has; and no public function has a `requires`, which `tools/no-requires` looks at.
+use Rattle.gap.specs.Modes.{hsmMode, lsmMode}
+use Rattle.promises.specs.TwoPasts.{NoPageOutlivesItsLink}
+use Rattle.promises.specs.AsIfNew.{AsIfNew}
+use Rattle.promises.specs.FirstLink.{FirstLink}
+use Rattle.promises.specs.Refusals.{EachRefusal}
+use Rattle.promises.specs.WorkedPasts.{WorkedPasts}
+use Rattle.promises.specs.Table.{Table}
+use Rattle.promises.specs.ReadingBack.{ReadingBack}
+use Rattle.promises.specs.SmallDamage.{SmallDamage}
+use Rattle.promises.specs.BothEnds.{BothEnds}
+
+pub record Demands : Type 0 where
+  -- Demand 2: what each call answers is fixed by its contract, and the definitions that the contracts cite are no empty ones. "pages within the windows must be
+  -- read", as themselves, and nothing else is read as a page. "Mode 0 is HSM", "Mode 1 is LSM":
+  pub high-speed : ReadingBack 0 hsmMode
+  pub low-speed : ReadingBack 1 lsmMode
+  -- "good if the check bits agree": no small damage makes another page of a page.
+  pub small-damage : SmallDamage
+  -- "Common bits, first in this order", and one end is master.
+  pub both-ends : BothEnds
+  -- Demand 3: "No page outlives its link. Two modules with any two pasts, each just gone into Break, with the same advertisement registers, given the same
+  -- later events and draws (the second's clock readings shifted by the difference of the entry readings modulo 2^32), give the same answers, register values
+  -- and ordered pages; only bits 6 and 4 of 7.513 may differ, up to and with its first read."
+  pub no-page-outlives-its-link : NoPageOutlivesItsLink
+  -- What it comes to for one module: after Break, no answer depends on any page heard before it, but for these two bits.
+  pub as-if-new : AsIfNew
+  -- It speaks of something: two modules that do differ in these bits, and in nothing else that they say.
+  pub worked-pasts : WorkedPasts
+  -- "One statement covers P1-P14."
+  pub table : Table
+  -- "a device that stays in Break" is shut out: a link comes up through every state,
+  pub first-link : FirstLink
+  -- and each of 01's refusals is met.
+  pub each-refusal : EachRefusal

@@ -1,0 +1,35 @@
+-- What the check bits are, without the steps of a division, and what they are worth: no small damage to a page makes another page of it.
+use Prim.Native.Nat.{ℕ, zero, suc, _+_, _%_, _^_, _<_, _≤_}
+use mathlib.Core.Path.{_≡_}
+use mathlib.Core.Bool.{Bool, false, cond, xor}
+use mathlib.Core.List.{List, [], _∷_, _++_}
+use lib.ListN.{length, replicate}
+use Rattle.page.specs.Word.{bitsOf}
+use Rattle.check_bits.specs.CheckBits.{plus, generator, checkList}
+use Rattle.gap.specs.Delimiters.{among}
+use Rattle.line.specs.Transitions.{transitions}
+
+-- A polynomial times x^16 + x^15 + x^2 + 1: at the power of each coefficient that is one the divisor, all added up.
+abbrev pub multipleBy : List Bool → List Bool
+multipleBy [] = replicate 16 false
+multipleBy (b ∷ q) = plus (cond b generator []) (false ∷ multipleBy q)
+
+-- In how many of the positions below n two pages differ: how many transitions are lost or added to make the one of the other.
+unfoldable pub changedBelow : ℕ → List ℕ → List ℕ → ℕ
+changedBelow zero page other = 0
+changedBelow (suc p) page other = cond (xor (among p page) (among p other)) 1 0 + changedBelow p page other
+
+-- Two pages that differ in an even number of their 157 positions, in four at least, and not only within 32 neighbouring ones. So the one has not become
+-- the other by a change of up to three positions, of an odd number of them, or within 32 neighbouring ones.
+pub record FarApart (page other : List ℕ) : Type 0 where
+  pub even : changedBelow 158 page other % 2 ≡ 0
+  pub four : 4 ≤ changedBelow 158 page other
+  pub spread : (start : ℕ) → ((p : ℕ) → (start ≤ p → p < start + 32 → ⊥) → among p page ≡ among p other) → ⊥
+
+pub record SmallDamage : Type 0 where
+  -- "The remainder is that of the 48 bits times x^16": less the remainder, which is the 48 bits with the check bits behind them, they are a multiple;
+  pub divides : (w : ℕ) → (q : List Bool) × (multipleBy q ≡ bitsOf 48 w ++ checkList w)
+  -- and no other sixteen bits make them one.
+  pub no-other : (w : ℕ) (q bits : List Bool) → length bits ≡ 16 → multipleBy q ≡ bitsOf 48 w ++ bits → bits ≡ checkList w
+  -- The pages of two different words, with either delimiter.
+  pub apart : (slow : Bool) (w v : ℕ) → w < 2 ^ 48 → v < 2 ^ 48 → (w ≡ v → ⊥) → FarApart (transitions slow w) (transitions slow v)
