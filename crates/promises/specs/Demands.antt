@@ -1,7 +1,8 @@
 -- The customer's three demands, in one place.
 --
--- Demand 1, "Nobody checks anything beforehand", is no field here. Each function's contract holds it: it is proved at every input that the function is safe, ends
--- and answers what its definition has; and no public function has a `requires`, which `tools/no-requires` looks at.
+-- Demand 1, "Every call takes any input and ends. Nobody checks anything beforehand. A refusal carries one number from 01's table, exactly when its condition
+-- holds; state and lent memory afterwards are as written there", is no field here. Each function's contract holds it: it is proved at every input that the
+-- function is safe, ends and answers and leaves what its definition has; and no public function has a `requires`, which `tools/no-requires` looks at.
 use Rattle.gap.specs.Modes.{hsmMode, lsmMode}
 use Rattle.promises.specs.TwoPasts.{NoPageOutlivesItsLink}
 use Rattle.promises.specs.AsIfNew.{AsIfNew}
@@ -14,8 +15,9 @@ use Rattle.promises.specs.SmallDamage.{SmallDamage}
 use Rattle.promises.specs.BothEnds.{BothEnds}
 
 pub record Demands : Type 0 where
-  -- Demand 2: what each call answers is fixed by its contract, and the definitions that the contracts cite are no empty ones. "pages within the windows must be
-  -- read", as themselves, and nothing else is read as a page. "Mode 0 is HSM", "Mode 1 is LSM":
+  -- Demand 2: "Exactly 01. Pages become line transitions and transitions pages; a page sent, each gap in its window, is read back as itself, and nothing else
+  -- is read as a page. Check bits, registers, each step, rate and role follow 01." What each call answers is fixed by its contract, which cites 01's
+  -- definitions; that pages are read back, and nothing else, at both speeds ("Mode 0 is HSM", "Mode 1 is LSM"), is said here:
   pub high-speed : ReadingBack 0 hsmMode
   pub low-speed : ReadingBack 1 lsmMode
   -- "good if the check bits agree": no small damage makes another page of a page.
