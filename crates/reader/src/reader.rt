@@ -54,7 +54,7 @@ pub(crate) fn dropped(answer: Answer, reading: u32) -> Step
 }
 
 // The bits with one more, if the last edge was a clock. The newest bit is the highest, so after 64 the first is the lowest.
-fn with_bit(at: u32, k: u32, bits: u64) -> u64
+pub(crate) fn with_bit(at: u32, k: u32, bits: u64) -> u64
     ensures { λ r. ⌜ r ≡ withBit at k bits ⌝ }
 {
     if is_clock(at) {
@@ -67,7 +67,7 @@ fn with_bit(at: u32, k: u32, bits: u64) -> u64
 }
 
 // An edge where the pattern asked for one.
-fn arrive(at: u32, bits: u64, reading: u32) -> Step
+pub(crate) fn arrive(at: u32, bits: u64, reading: u32) -> Step
     ensures { λ r. ⌜ Gives r (arrives at bits reading) ⌝ }
 {
     if at == 157 {
@@ -87,7 +87,7 @@ fn arrive(at: u32, bits: u64, reading: u32) -> Step
 }
 
 // An edge so many positions after the last one of an attempt. Most edges follow a clock, so that is looked at first.
-pub(crate) fn step_on(slow: bool, at: u32, k: u32, bits: u64, reading: u32) -> Step
+fn step_on(slow: bool, at: u32, k: u32, bits: u64, reading: u32) -> Step
     requires { ⌜ (1 ≤ k) × (k ≤ 4) ⌝ }
     ensures { λ r. ⌜ Gives r (goesOn slow at bits reading (Positions k)) ⌝ }
 {

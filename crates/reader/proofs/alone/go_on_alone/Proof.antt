@@ -20,6 +20,6 @@ go-on-alone-spec =
     (λ c κs. search needs)
     (λ c. search needs)
     (λ c κs. search needs)
-    (λ c. rw (sym (c .before .before .before .before .judgement .ensures ∙ ap (judgementOf _) (c .before .before .before .before .before .time-between .ensures)) ∙ c .before .before .k .given .1) (c .step-on .ensures))
+    (λ c. rw (sym (c .before .before .before .before .judgement .ensures ∙ ap (judgementOf _) (c .before .before .before .before .before .time-between .ensures)) ∙ c .before .before .k .given .1) (c .step-on-alone .ensures))
     (λ c. rw (sym (c .before .before .before .judgement .ensures ∙ ap (judgementOf _) (c .before .before .before .before .time-between .ensures)) ∙ c .before .enum-told .given .1) (c .opened .ensures))
     (λ c. rw (sym (c .before .before .before .judgement .ensures ∙ ap (judgementOf _) (c .before .before .before .before .time-between .ensures)) ∙ c .before .enum-told2 .given .1) (c .dropped .ensures)))
