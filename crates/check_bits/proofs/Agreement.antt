@@ -11,7 +11,7 @@ use lib.Seq.{drop-at}
 use borrow.Author.Tests.{eq-eqb, ne-eqb, eqb-true, eqb-false}
 use Rattle.page.specs.Word.{bitsOf}
 use Rattle.check_bits.specs.CheckBits.{plus, divided, remainder, numeral, checkList, checkBits, agrees}
-use Rattle.check_bits.proofs.Polynomials.{plus-comm, plus-twice, plus-length, plus-append, plus-self, plus-zeros}
+use Rattle.check_bits.proofs.Polynomials.{plus-twice, plus-length, plus-append, plus-self, plus-zeros}
 use Rattle.check_bits.proofs.Remainders.{remainder-length, more-bits}
 use Rattle.check_bits.proofs.Multiples.{ended}
 use Rattle.check_bits.proofs.WordBits.{bits-length, bits-split}

@@ -1,5 +1,4 @@
 // The events, and the one step that takes any of them.
-ghost use mathlib.Core.Path.{_≡_};
 ghost use Rattle.state.specs.Memory.{Meets};
 ghost use Rattle.device.specs.Steps.{stepDue};
 use refusal::Answer;

@@ -1,7 +1,7 @@
 // A run of events as numbers, from a fresh device.
 ghost use mathlib.Core.Path.{_≡_};
 ghost use mathlib.Core.List.{_++_};
-ghost use Prim.Native.Nat.{_*_, _≤_};
+ghost use Prim.Native.Nat.{_≤_};
 ghost use lib.ListN.{length, drop};
 ghost use Rattle.refusal.specs.Answers.{said};
 ghost use Rattle.device.specs.Runs.{eventOf, eventsOf, answersTo, runSays, runLeaves};

@@ -1,12 +1,12 @@
 -- Judging over any numbers whose windows lie apart: each window is its own k's alone, and quiet begins above the last.
-use mathlib.Core.Path.{_≡_, refl}
-use mathlib.Core.Bool.{Bool, true, false, _&&_, and-false}
+use mathlib.Core.Path.{_≡_}
+use mathlib.Core.Bool.{true, false, and-false}
 use Prim.Native.Nat.{ℕ, _+_, _*_, _<_, _≤_}
 use native.Mathlib.Omega.{arith}
 use lib.Dec.{leb}
 use borrow.Author.Tests.{le-leb, lt-leb}
 use Rattle.gap.specs.declared.modes.LineMode.{LineMode}
-use Rattle.gap.specs.declared.modes.Judgement.the-variants.{Positions, Quiet, Unfit}
+use Rattle.gap.specs.declared.modes.Judgement.the-variants.{Positions, Quiet}
 use Rattle.gap.specs.Modes.{hsmMode, lsmMode}
 use Rattle.gap.specs.Gaps.{within, judgementOf}
 

@@ -10,11 +10,10 @@ use Rattle.refusal.specs.declared.Refusal.the-variants.{Gap, Cut, Check, Select
 use Rattle.refusal.specs.Numbers.{numberOf}
 use Rattle.refusal.specs.Answers.{Said, said}
 use Rattle.reader.specs.declared.reader.Step.{Step}
-use Rattle.reader.specs.declared.reader.Reader.{Reader}
 use Rattle.reader.specs.Reading.{Brings, Gives, bring}
 use Rattle.state.specs.declared.Device.{Device}
 use Rattle.state.specs.declared.Reply.{Reply}
-use Rattle.state.specs.Memory.{Due, Meets, due, withReader}
+use Rattle.state.specs.Memory.{Meets, due, withReader}
 use Rattle.state.proofs.Dues.{as-due}
 use Rattle.hearing.specs.Edges.{pageIn, listened}
 

@@ -1,8 +1,8 @@
 -- 01's worked examples of the line, computed from the definitions.
 use mathlib.Core.Path.{_≡_, refl}
 use mathlib.Core.Bool.{xor}
-use Prim.Native.Nat.{ℕ, _^_}
-use lib.ListN.{length, getD}
+use Prim.Native.Nat.{_^_}
+use lib.ListN.{getD}
 use Rattle.check_bits.specs.CheckBits.{checkList, remainder}
 use Rattle.gap.specs.Clock.{timeBetween}
 use Rattle.gap.specs.Modes.{hsmMode, lsmMode}

@@ -1,8 +1,8 @@
 -- The 64 bits of a page by place: D0 to D47 are the word's bits from the lowest on, S15 to S0 the check's from the highest on.
-use mathlib.Core.Path.{_≡_, refl, sym, ap, ap₂, _∙_}
+use mathlib.Core.Path.{_≡_, sym, ap, ap₂, _∙_}
 use mathlib.Core.Bool.{Bool, false}
-use mathlib.Core.List.{List, _++_}
-use Prim.Native.Nat.{ℕ, zero, suc, _+_, _-_, _/_, _^_, _<_, _≤_}
+use mathlib.Core.List.{List}
+use Prim.Native.Nat.{ℕ, zero, suc, _+_, _-_, _/_, _^_, _<_}
 use native.Mathlib.Nat.{le-of-suc-le-suc, not-suc-le-zero, div-one}
 use native.Mathlib.Numerals.{one-add}
 use native.Mathlib.Omega.{arith}
@@ -11,7 +11,7 @@ use lib.Pow.{shr-shr}
 use lib.Seq.{getD-append-add}
 use Rattle.page.specs.Word.{odd, bitsOf}
 use Rattle.check_bits.specs.CheckBits.{checkList, checkBits}
-use Rattle.check_bits.proofs.BinaryNumbers.{digitsOf, digit-at}
+use Rattle.check_bits.proofs.BinaryNumbers.{digit-at}
 use Rattle.check_bits.proofs.WordBits.{bits-length}
 use Rattle.check_bits.proofs.CheckTheorem.{checkList-length, checkList-digits}
 use Rattle.line.specs.Transitions.{sentBits}

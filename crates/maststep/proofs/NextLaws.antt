@@ -4,7 +4,7 @@ use mathlib.Core.Bool.{Bool, true, false, _||_}
 use Prim.Native.Nat.{ℕ, _/_, _^_}
 use lib.Dec.{eqb}
 use borrow.Author.Tests.{eq-eqb, ne-eqb}
-use Rattle.refusal.specs.Answers.{Said, packed}
+use Rattle.refusal.specs.Answers.{packed}
 use Rattle.refusal.proofs.OneAnswer.{kind-of-packed}
 use Rattle.reading.specs.Captures.{Attempt}
 use Rattle.maststep.specs.NextPlace.{nextLeft}

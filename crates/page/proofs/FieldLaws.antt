@@ -1,6 +1,6 @@
 -- The laws of a word's fields: what was set is got, the other fields stay, a word stays a word. They are shown once over where a part
 -- starts and how many bits it has, and then said of the fields by name.
-use mathlib.Core.Path.{_≡_, refl, sym, ap, ap₂, _∙_, subst}
+use mathlib.Core.Path.{_≡_, refl, sym, ap, _∙_, subst}
 use mathlib.Core.Bool.{Bool, true, false, _||_}
 use mathlib.Core.List.{[], _∷_}
 use Prim.Native.Nat.{ℕ, suc, _+_, _-_, _*_, _/_, _%_, _^_, _<_, _≤_}

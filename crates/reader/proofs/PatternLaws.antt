@@ -1,8 +1,7 @@
 -- What the pattern asks, by kinds of positions: in the delimiter a span of a mask, computed; after a clock one or two positions, after a
 -- bit one, after 155 two, and nothing elsewhere.
-use mathlib.Core.Path.{_≡_, refl, sym, ap, ap₂, _∙_}
+use mathlib.Core.Path.{_≡_, refl, sym, ap, _∙_}
 use mathlib.Core.Bool.{Bool, true, false, cond, not, _&&_, _||_, Bool·beq, true≢false, and-false}
-use mathlib.Core.List.{List}
 use Prim.Native.Nat.{ℕ, zero, suc, _+_, _-_, _*_, _/_, _%_, _^_, _<_, _≤_}
 use native.Mathlib.Nat.{mul-comm, pow-suc}
 use native.Mathlib.Numerals.{add-one}
@@ -12,7 +11,6 @@ use lib.Pow.{shl-exact}
 use borrow.Author.Tests.{leb-true, leb-false, eqb-true, eqb-false, le-leb, lt-leb, eq-eqb, ne-eqb}
 use Rattle.page.specs.Word.{odd}
 use Rattle.page.proofs.ComputedTest.{everyBelow, at-each, beq-equal}
-use Rattle.gap.specs.Delimiters.{among, hsmDelimiter, lsmDelimiter}
 use Rattle.gap.specs.declared.modes.LineMode.{LineMode}
 use Rattle.gap.specs.declared.modes.Judgement.the-variants.{Positions, Quiet, Unfit}
 use Rattle.gap.specs.Gaps.{within, judgementOf}

@@ -1,6 +1,5 @@
 // The edge reader once more, for a device: the same definitions, and bodies of its own. The compiler lays a function of this size into its caller only where
 // it has just one. With one body for the walk over a capture and for the device, the reader would go through memory at each edge of both.
-ghost use mathlib.Core.Path.{_≡_};
 ghost use Prim.Native.Nat.{_≤_};
 ghost use Rattle.gap.specs.declared.modes.Judgement.the-variants.{Positions};
 ghost use Rattle.gap.specs.Clock.{timeBetween};

@@ -1,15 +1,15 @@
 -- Walking a capture edge by edge: what is left to find is the same after each edge that settles nothing.
 use mathlib.Core.Path.{_≡_, refl, sym, ap, ap₂, _∙_}
-use mathlib.Core.Bool.{Bool, true, false, cond}
+use mathlib.Core.Bool.{true, false, cond}
 use mathlib.Core.List.{List, [], _∷_}
 use Prim.Native.Nat.{ℕ, _+_, _-_, _<_, _≤_}
 use native.Mathlib.Nat.{add-assoc, add-zero}
 use native.Mathlib.Numerals.{add-one}
 use native.Mathlib.Omega.{arith}
 use lib.Dec.{eqb}
-use lib.ListN.{length, getD, take, drop, length-drop, drop-of-length-le}
-use lib.Seq.{drop-cons, take-all}
-use Rattle.refusal.specs.Answers.{Said, refused}
+use lib.ListN.{length, getD, drop, drop-of-length-le}
+use lib.Seq.{drop-cons}
+use Rattle.refusal.specs.Answers.{refused}
 use Rattle.gap.specs.declared.modes.LineMode.{LineMode}
 use Rattle.reader.specs.declared.reader.Reader.{Reader}
 use Rattle.reader.specs.declared.reader.Reader.the-variants.{Fresh, Dropping}
@@ -18,7 +18,7 @@ use Rattle.gap.specs.declared.modes.Judgement.the-variants.{Positions, Quiet, U
 use Rattle.gap.specs.Clock.{timeBetween}
 use Rattle.gap.specs.Gaps.{judgementOf}
 use Rattle.reader.specs.Reading.{edgeOf, dropsOn}
-use Rattle.reading.specs.Captures.{Attempt, ends, isOpen, opensAt, attemptOf}
+use Rattle.reading.specs.Captures.{ends, isOpen, opensAt, attemptOf}
 
 -- One edge of the tail.
 here : (tail : List ℕ) (i : ℕ) → i < length tail → drop i tail ≡ getD tail i 0 ∷ drop (i + 1) tail

@@ -1,7 +1,7 @@
 -- Reading from next place to next place meets every attempt once, in order, and ends.
 -- What one reader says along a whole capture, with a Cut for an attempt that is open at its end, is the first attempt's outcome and then the
 -- same for what stands from the next place on: the edge that opens an attempt leaves any reader as a fresh one takes it.
-use mathlib.Core.Path.{_≡_, refl, sym, ap, ap₂, _∙_, subst}
+use mathlib.Core.Path.{_≡_, refl, sym, ap, _∙_}
 use mathlib.Core.Bool.{Bool, true, false, cond}
 use mathlib.Core.List.{List, [], _∷_, _++_}
 use Prim.Native.Nat.{ℕ, zero, suc, _+_, _-_, _%_, _^_, _<_, _≤_}
@@ -22,7 +22,7 @@ use Rattle.gap.specs.Clock.{timeBetween}
 use Rattle.gap.specs.Gaps.{judgementOf}
 use Rattle.reader.specs.Pattern.{asks}
 use Rattle.reader.specs.Reading.{Brings, bring, withBit, arrives, goesOn, dropsOn, edgeOf}
-use Rattle.reading.specs.Captures.{Attempt, ends, isOpen, opensAt, attemptOf, readIn}
+use Rattle.reading.specs.Captures.{Attempt, isOpen, opensAt, attemptOf, readIn}
 use Rattle.reading.proofs.EdgeRuns.{saidAlong, readerAfter}
 
 -- What was said, without the edges at which nothing was.

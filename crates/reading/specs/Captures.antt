@@ -13,7 +13,7 @@ use Rattle.reader.specs.declared.reader.Reader.{Reader}
 use Rattle.reader.specs.declared.reader.Reader.the-variants.{Fresh, Open, Dropping}
 use Rattle.reading.specs.declared.captures.Outcome.{Outcome}
 use Rattle.gap.specs.Modes.{modeOf}
-use Rattle.reader.specs.Reading.{Brings, edgeOf}
+use Rattle.reader.specs.Reading.{edgeOf}
 
 -- What a capture brings: what is said, and where the next attempt opens.
 pub record Attempt : Type 0 where

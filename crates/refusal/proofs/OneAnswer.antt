@@ -1,7 +1,7 @@
 -- No second answer says the same: a promise about what is said fixes the answer.
 -- `heard` finds the answer again from what was said, so two answers that say the same are one.
 -- The number of an ability is a byte in the code; here that is the premise `Sayable`.
-use mathlib.Core.Path.{_≡_, refl, sym, ap, ap₂, _∙_}
+use mathlib.Core.Path.{_≡_, refl, sym, ap, _∙_}
 use mathlib.Core.Bool.{Bool, true, false, cond}
 use Prim.Native.Nat.{ℕ, _+_, _-_, _/_, _^_, _<_}
 use native.Mathlib.Nat.{mod-lt}

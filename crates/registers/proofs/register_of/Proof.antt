@@ -1,4 +1,3 @@
-use borrow.Author.Needs.{needs}
 use borrow.Author.Tests.{eq-eqb, ne-eqb}
 use Rattle.registers.specs.Registers.{registerOf}
 use Rattle.registers.proofs.register_of.Statement.{statement}

@@ -1,5 +1,5 @@
 -- After each event its answer stands at the head of the list; the number of events still to take falls.
-use Prim.Native.Nat.{ℕ, _-_}
+use Prim.Native.Nat.{_-_}
 use native.Mathlib.Omega.{arith}
 use borrow.Author.Needs.{needs}
 use Rattle.device.proofs.RunLoop.{Running, count-events, start, same-long, inside, turn, finish}

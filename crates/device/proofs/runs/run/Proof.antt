@@ -2,9 +2,6 @@ use Rattle.device.proofs.RunLoop.{too-few, has-room, all-answered}
 use borrow.Author.Needs.{needs}
 use Rattle.device.proofs.runs.run.Statement.{statement}
 use Rattle.device.proofs.runs.run.Tie as tie
-use Rattle.device.proofs.runs.run.Reads as reads
-use Rattle.device.proofs.runs.run.Lts as lts
-use Rattle.device.proofs.runs.answer_all.Reads as answer-all-reads
 
 -- src/runs.rt:80:9
 returns : tie.Need-returns

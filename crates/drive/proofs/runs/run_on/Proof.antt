@@ -3,11 +3,6 @@ use lib.Seq.{length-take-le}
 use borrow.Author.Needs.{needs}
 use Rattle.drive.proofs.runs.run_on.Statement.{statement}
 use Rattle.drive.proofs.runs.run_on.Tie as tie
-use Rattle.drive.proofs.runs.run_on.Reads as reads
-use Rattle.drive.proofs.runs.run_on.Lts as lts
-use Rattle.device.proofs.run.Reads as run-reads
-use Rattle.drive.proofs.runs.take_events.Reads as take-events-reads
-use Rattle.drive.proofs.runs.tell_answers.Reads as tell-answers-reads
 
 -- src/runs.rt:53:5
 take-events-requires : tie.Need-take-events-requires

@@ -1,6 +1,5 @@
 -- Each return is a law of what the call says and leaves.
 use borrow.Author.Needs.{needs}
-use native.Mathlib.Omega.{arith}
 use Rattle.line.proofs.WrittenList.{wide, past, too-few, lends, written}
 use Rattle.line.proofs.writer.write_in.Statement.{statement}
 use Rattle.line.proofs.writer.write_in.Tie as tie

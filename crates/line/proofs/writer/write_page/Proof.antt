@@ -1,10 +1,9 @@
 -- After each position the readings of the transitions passed stand at the head of the list; what is left of 157 falls.
-use mathlib.Core.Path.{sym, ap, _∙_}
+use mathlib.Core.Path.{sym, _∙_}
 use mathlib.Core.Logic.{⊎-elim}
-use Prim.Native.Nat.{ℕ, _-_}
+use Prim.Native.Nat.{_-_}
 use native.Mathlib.Omega.{arith}
 use borrow.Author.Needs.{needs}
-use lib.ListN.{length}
 use Rattle.line.specs.Transitions.{edgeCount, transitions}
 use Rattle.line.proofs.WritingLoop.{Writing, start, room, same-long, turn-yes, turn-no, finish}
 use Rattle.line.proofs.writer.write_page.Statement.{statement}

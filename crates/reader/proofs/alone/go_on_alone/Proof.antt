@@ -1,5 +1,4 @@
 use mathlib.Core.Path.{sym, ap, _∙_}
-use native.Mathlib.Omega.{arith}
 use borrow.Author.Needs.{needs}
 use Rattle.gap.specs.Gaps.{judgementOf}
 use Rattle.reader.specs.Reading.{goesOn}

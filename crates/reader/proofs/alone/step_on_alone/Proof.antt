@@ -3,7 +3,7 @@ use native.Mathlib.Omega.{arith}
 use borrow.Author.Needs.{needs}
 use borrow.Author.Tests.{le-leb, lt-leb}
 use Rattle.reader.specs.Reading.{goesOn}
-use Rattle.reader.proofs.PatternLaws.{Small, clocked, clock-asks, within-page}
+use Rattle.reader.proofs.PatternLaws.{clocked, clock-asks, within-page}
 use Rattle.reader.proofs.alone.step_on_alone.Statement.{statement}
 use Rattle.reader.proofs.alone.step_on_alone.Tie as tie
 

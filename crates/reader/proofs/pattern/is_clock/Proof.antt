@@ -1,4 +1,3 @@
-use borrow.Author.Needs.{needs}
 use borrow.Author.Tests.{le-leb, lt-leb}
 use Rattle.reader.specs.Pattern.{isClock}
 use Rattle.reader.proofs.pattern.is_clock.Statement.{statement}

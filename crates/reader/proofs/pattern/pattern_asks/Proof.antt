@@ -2,7 +2,7 @@
 use mathlib.Core.Path.{sym, _∙_}
 use native.Mathlib.Omega.{arith}
 use borrow.Author.Needs.{needs}
-use Rattle.reader.proofs.PatternLaws.{Small, hsm-span, lsm-span, after-bit, after-clock, after-155, after-end}
+use Rattle.reader.proofs.PatternLaws.{hsm-span, lsm-span, after-bit, after-clock, after-155, after-end}
 use Rattle.reader.proofs.pattern.pattern_asks.Statement.{statement}
 use Rattle.reader.proofs.pattern.pattern_asks.Tie as tie
 

@@ -1,4 +1,4 @@
-use mathlib.Core.Path.{refl, sym, _∙_}
+use mathlib.Core.Path.{refl, sym}
 use borrow.Author.Needs.{needs}
 use Rattle.reading.proofs.CaptureLaws.{first-opens}
 use Rattle.reading.proofs.captures.ended.Statement.{statement}

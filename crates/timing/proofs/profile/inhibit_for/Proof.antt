@@ -1,4 +1,3 @@
-use borrow.Author.Needs.{needs}
 use borrow.Author.Tests.{eq-eqb, ne-eqb}
 use Rattle.timing.proofs.profile.inhibit_for.Statement.{statement}
 use Rattle.timing.proofs.profile.inhibit_for.Tie as tie
