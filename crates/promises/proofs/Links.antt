@@ -24,8 +24,8 @@ use Rattle.promises.specs.WorkedPasts.{WorkedPasts}
 pub first-link : FirstLink
 unfolding spoken afterAll saysTo stepOver tickDue writeDue readDue sentDue reportDue registerOf commanded statusBits ownPage echoingPage nonceFor wordOf beyondAckAndEcho part withPart edgeDue listened edgeOf goesOn dropsOn judgementOf asks always byBit arrives isClock agrees checkBits checkList remainder xor readings transitions positionsTo hasTransition sentBits pageIn pageInAbility pageInAck mayOrder orders counted resolutionOf hasAbility roleOf
 first-link =
-    record { break = refl; ability = refl; ack = refl; complete = refl; check-link = refl; outcome = refl; up = refl; says = refl }
+    record { off = refl; break = refl; ability = refl; ack = refl; complete = refl; check-link = refl; outcome = refl; up = refl; says = refl }
 
 pub worked-pasts : WorkedPasts
 unfolding afterAll saysTo stepOver tickDue writeDue readDue sentDue reportDue registerOf commanded statusBits ownPage echoingPage nonceFor wordOf beyondAckAndEcho part withPart edgeDue listened edgeOf goesOn dropsOn judgementOf asks always byBit arrives isClock agrees checkBits checkList remainder xor readings transitions positionsTo hasTransition sentBits pageIn pageInAbility pageInAck mayOrder orders counted resolutionOf hasAbility roleOf
-worked-pasts = record { first-enters = refl; second-enters = refl; first-says = refl; second-says = refl }
+worked-pasts = record { first-enters = refl; second-enters = refl; same-advertised = refl; apart = refl; first-says = refl; second-says = refl }

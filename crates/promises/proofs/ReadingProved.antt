@@ -29,13 +29,14 @@ use Rattle.reading.proofs.EdgeRuns.{gapsAfter, gaps, edgeGaps, saidAlong, Sends
 use Rattle.reading.proofs.EdgeRuns as runs
 use Rattle.reading.proofs.OnlyPages as only
 use Rattle.reading.proofs.SentGaps.{afterClock, transitions-listed}
-use Rattle.reading.proofs.SinceOpened.{SaidPage}
+use Rattle.reading.proofs.SinceOpened.{startsAt, SaidPage}
 use Rattle.reading.proofs.ReadTheorem.{ReadsBack, reads-back}
 use Rattle.reading.proofs.ReadCalls as calls
 use Rattle.reading.proofs.WriteThenRead.{written-sends, write-then-read}
 use Rattle.reading.proofs.Walk as walk
+use Rattle.listing_text.specs.Listing.{attemptsFrom}
 use Rattle.promises.specs.FirstLink.{spoken}
-use Rattle.promises.specs.ReadingBack.{fitsBehind, fits, Carries, saysAlong, readerAfter, atTheLast, EndsWith, BeginsWith, callsFrom, atTheEnd, ReadingBack}
+use Rattle.promises.specs.ReadingBack.{fitsBehind, fits, Carries, saysAlong, readerAfter, atTheLast, opensAfter, EndsWith, BeginsWith, atTheEnd, ReadingBack}
 
 -- The two ways to walk along edges are one.
 same-says : (m : LineMode) (r : Reader) (edges : List ℕ) → saysAlong m r edges ≡ saidAlong m r edges
@@ -127,7 +128,7 @@ last-at m (Open at last bits) x = by (only.edge-cases (m .slow) at bits x (judge
     is r l b e = subst (LastAt x) (sym e) l
 
     by : only.Edge (m .slow) at bits x (judgementOf m (timeBetween x last)) → LastAt x (goesOn (m .slow) at bits x (judgementOf m (timeBetween x last)) .reader)
-    by (only.cut e) = is (Open 1 x 0) (opened 1 0) (goesOn (m .slow) at bits x (judgementOf m (timeBetween x last))) (ap (λ (b : Brings). b .reader) e)
+    by (only.cut q e) = is (Open 1 x 0) (opened 1 0) (goesOn (m .slow) at bits x (judgementOf m (timeBetween x last))) (ap (λ (b : Brings). b .reader) e)
     by (only.wrong n l u e) = is (Dropping x) dropped (goesOn (m .slow) at bits x (judgementOf m (timeBetween x last))) (ap (λ (b : Brings). b .reader) e)
     by (only.passing k j a e) = subst (LastAt x) (sym (ap (λ (b : Brings). b .reader) e)) (opened (at + k) _)
     by (only.ending k j a end g e) = is (Dropping x) dropped (goesOn (m .slow) at bits x (judgementOf m (timeBetween x last))) (ap (λ (b : Brings). b .reader) e)
@@ -138,6 +139,20 @@ quiet-opens : (m : LineMode) → Apart m → (r : Reader) (last x : ℕ) → Las
 unfolding edgeOf dropsOn
 quiet-opens m apart r last x (opened at bits) q = reads-back m apart .cut at last bits x q
 quiet-opens m apart r last x dropped q = rw (counts-quiet m apart (timeBetween x last) q)
+
+-- What tells where an attempt may open is the last edge before.
+opens-after : (m : LineMode) (r : Reader) (y x : ℕ) (before : List ℕ) → startsAt m (readerAfter m r (y ∷ before)) x ≡ opensAfter m (y ∷ before) x
+opens-after m r y x [] = by (edgeOf m r y .reader) (last-at m r y)
+  where
+    by : (s : Reader) → LastAt y s → startsAt m s x ≡ leb (m .quiet) (timeBetween x y)
+    by s (opened at bits) = refl
+    by s dropped = refl
+opens-after m r y x (z ∷ before) = opens-after m (edgeOf m r y .reader) z x before
+
+starts-opens : (m : LineMode) (before : List ℕ) (x : ℕ) → startsAt m (runs.readerAfter m Fresh before) x ≡ true → opensAfter m before x ≡ true
+starts-opens m [] x h = refl
+starts-opens m (y ∷ before) x h =
+    sym (opens-after m Fresh y x before) ∙ ap (λ (r : Reader). startsAt m r x) (same-reader m Fresh (y ∷ before)) ∙ h
 
 -- The calls by a mode's number are those in the mode that it names.
 read-known : (mode : ℕ) (m : LineMode) (capture : List ℕ) (place : ℕ) → modeOf mode ≡ Known m → readOf mode capture place ≡ readIn m capture place
@@ -152,7 +167,8 @@ write-known mode m list place w known word room =
     ∙ rw (lt-ltb w (2 ^ 48) word, le-leb (edgeCount m w) (length list - place) room)
 
 same-calls : (mode : ℕ) (m : LineMode) (capture : List ℕ) → modeOf mode ≡ Known m → (more place : ℕ)
-    → callsFrom mode capture more place ≡ walk.attemptsBy (readIn m capture) (length capture) more place
+    → attemptsFrom more mode capture place ≡ walk.attemptsBy (readIn m capture) (length capture) more place
+unfolding attemptsFrom
 same-calls mode m capture known zero place = refl
 same-calls mode m capture known (suc more) place =
     ap (λ (l : List Said). cond (ltb place (length capture)) (readOf mode capture place .says ∷ l) []) (same-calls mode m capture known more (readOf mode capture place .next))
@@ -209,10 +225,12 @@ reading-back mode m known apart clock =
     since past x w s =
         record {
           before = s .attempt .before;
-          page = s .attempt .first ∷ (s .attempt .since ++ (x ∷ []));
+          first = s .attempt .first;
+          later = s .attempt .since ++ (x ∷ []);
           whole =
               ap (λ (l : List ℕ). l ++ (x ∷ [])) (s .attempt .whole)
               ∙ append-assoc (s .attempt .before) (s .attempt .first ∷ s .attempt .since) (x ∷ []);
+          opened = starts-opens m (s .attempt .before) (s .attempt .first) (s .attempt .starts);
           word = s .sent .word;
           carried = sends-carries m w (s .attempt .first ∷ (s .attempt .since ++ (x ∷ []))) (s .sent .near);
         }

@@ -1,8 +1,8 @@
 -- An input for each refusal number, computed from the definitions. That an event leaves a device as it was is shown of any device.
 use Prim.Native.Nat.{ℕ}
-use mathlib.Core.Path.{_≡_, refl, ap}
+use mathlib.Core.Path.{_≡_, refl, sym, ap, _∙_}
 use mathlib.Core.Bool.{false, xor}
-use mathlib.Core.List.{List}
+use mathlib.Core.List.{List, _++_}
 use Rattle.refusal.specs.Answers.{refused}
 use Rattle.page.specs.Fields.{part, withPart}
 use Rattle.check_bits.specs.CheckBits.{remainder, checkList, checkBits, agrees}
@@ -13,12 +13,15 @@ use Rattle.gap.specs.Modes.{modeOf}
 use Rattle.gap.specs.Gaps.{judgementOf}
 use Rattle.line.specs.Transitions.{sentBits, hasTransition, positionsTo, transitions, readings, edgeCount}
 use Rattle.line.specs.Writing.{saysIn, leavesIn, writeSays, writeLeaves}
+use Rattle.reader.specs.declared.reader.Reader.{Reader}
+use Rattle.reader.specs.declared.reader.Reader.the-variants.{Dropping}
 use Rattle.reader.specs.Pattern.{asks, always, byBit, isClock}
 use Rattle.reader.specs.Reading.{edgeOf, arrives, goesOn, dropsOn}
 use Rattle.reading.specs.Captures.{readIn, readOf}
 use Rattle.state.specs.declared.State.the-variants.{Ack}
+use Rattle.state.specs.declared.Talk.{Talk}
 use Rattle.state.specs.declared.Device.{Device}
-use Rattle.state.specs.Memory.{Due, due, freshDevice, wordOf}
+use Rattle.state.specs.Memory.{Due, due, freshDevice, withReader, wordOf}
 use Rattle.registers.specs.Registers.{registerOf, readDue, commanded, writeDue}
 use Rattle.timing.specs.OwnPages.{nonceFor, ownPage, echoingPage}
 use Rattle.hearing.specs.Edges.{beyondAckAndEcho, pageInAbility, pageInAck, pageIn, listened, edgeDue}
@@ -30,7 +33,7 @@ use Rattle.device.specs.declared.events.Event.the-variants.{Sent, Read, Write}
 use Rattle.device.specs.Steps.{stepOver, stepDue, saysTo, afterAll}
 use Rattle.device.specs.Runs.{eventOf, eventsOf, runSays, runLeaves}
 use Rattle.listing_text.specs.Listing.{refusedLine, listing}
-use Rattle.promises.specs.FirstLink.{spoken, toAck}
+use Rattle.promises.specs.FirstLink.{pageFrom, spoken, toAbility, toAck}
 use Rattle.promises.specs.Refusals.{Kept, EachRefusal}
 
 -- An event that is refused and changes nothing, whatever has come before.
@@ -49,6 +52,30 @@ nothing-out : (reading : ℕ) (d : Device) → d .state ≡ Ack → d .talk .out
 unfolding stepOver sentDue
 nothing-out reading d state out = rw (state, out)
 
+-- A device that is another but for its reader.
+but-for-reader : (reader : Reader) (d e : Device) → d .state ≡ e .state → d .advertised ≡ e .advertised → d .partner ≡ e .partner → d .flags ≡ e .flags
+    → d .talk ≡ e .talk → d .outcome ≡ e .outcome → d .reader ≡ reader → d ≡ withReader reader e
+but-for-reader reader d e s a p f t o r = let whole : withReader (d .reader) d ≡ withReader reader e = cc in whole
+
+-- What belongs to the link in Ability: the own page, and a mark "waiting" since the break timer was out.
+abbrev talkWaiting : Talk
+talkWaiting = record { own = 0x850001; held = 0; count = 0; mark = 8000000; timer = 0; out = false; heard = false; latch = false }
+
+talk-before : afterAll freshDevice toAbility .talk ≡ talkWaiting
+unfolding afterAll stepOver tickDue writeDue registerOf commanded ownPage nonceFor wordOf part withPart
+talk-before = refl
+
+talk-after : afterAll freshDevice (toAbility ++ pageFrom 8001000 0xA90002) .talk ≡ talkWaiting
+unfolding afterAll stepOver tickDue writeDue registerOf commanded ownPage nonceFor wordOf part withPart edgeDue listened edgeOf goesOn dropsOn judgementOf asks always byBit arrives isClock agrees checkBits checkList remainder xor readings transitions positionsTo hasTransition sentBits pageIn pageInAbility
+talk-after = refl
+
+-- A page with another selector in Ability leaves all of the device but the reader.
+stays : afterAll freshDevice (toAbility ++ pageFrom 8001000 0xA90002) ≡ withReader (Dropping 8125800) (afterAll freshDevice toAbility)
+unfolding afterAll stepOver tickDue writeDue registerOf commanded ownPage nonceFor wordOf part withPart edgeDue listened edgeOf goesOn dropsOn judgementOf asks always byBit arrives isClock agrees checkBits checkList remainder xor readings transitions positionsTo hasTransition sentBits pageIn pageInAbility
+stays =
+    but-for-reader (Dropping 8125800) (afterAll freshDevice (toAbility ++ pageFrom 8001000 0xA90002)) (afterAll freshDevice toAbility)
+    refl refl refl refl (talk-after ∙ sym talk-before) refl refl
+
 pub each-refusal : EachRefusal
 unfolding spoken afterAll saysTo stepOver tickDue writeDue sentDue reportDue registerOf commanded ownPage echoingPage nonceFor wordOf beyondAckAndEcho part withPart edgeDue listened edgeOf goesOn dropsOn judgementOf asks always byBit arrives isClock agrees checkBits checkList remainder xor readings transitions positionsTo hasTransition sentBits pageIn pageInAbility pageInAck mayOrder orders counted resolutionOf hasAbility roleOf writeSays writeLeaves saysIn leavesIn edgeCount modeOf readOf readIn runSays runLeaves eventsOf eventOf listing refusedLine
 each-refusal =
@@ -57,6 +84,7 @@ each-refusal =
       cut = record { run = record { said = refl; left = refl }; left = refl };
       check = record { run = record { said = refl; left = refl }; left = refl };
       selector = record { said = refl; left = refl };
+      selector-stays = stays;
       tie = record { said = refl; left = refl };
       changed = record { said = refl; left = refl };
       echo = record { said = refl; left = refl };

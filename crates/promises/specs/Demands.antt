@@ -1,8 +1,10 @@
--- The customer's three demands, in one place.
+-- What the customer's demands 2 and 3 say beyond the contracts of the calls, in one place. The rest is the contracts themselves, which say that the code's
+-- result is what the definition has (`Meets`, `Gives` and `Tells` do so for a device's reply, a reader's step and a capture's outcome): so "each step" follows
+-- 01, and so it is with demand 1.
 --
 -- Demand 1, "Every call takes any input and ends. Nobody checks anything beforehand. A refusal carries one number from 01's table, exactly when its condition
 -- holds; state and lent memory afterwards are as written there", is no field here. Each function's contract holds it: it is proved at every input that the
--- function is safe, ends and answers and leaves what its definition has; and no public function has a `requires`, which `tools/no-requires` looks at.
+-- function is safe, ends and answers and leaves what its definition has; and no public function has a `requires`, which `tools/no-requires` checks.
 use Rattle.gap.specs.Modes.{hsmMode, lsmMode}
 use Rattle.promises.specs.TwoPasts.{NoPageOutlivesItsLink}
 use Rattle.promises.specs.AsIfNew.{AsIfNew}
@@ -16,8 +18,8 @@ use Rattle.promises.specs.BothEnds.{BothEnds}
 
 pub record Demands : Type 0 where
   -- Demand 2: "Exactly 01. Pages become line transitions and transitions pages; a page sent, each gap in its window, is read back as itself, and nothing else
-  -- is read as a page. Check bits, registers, each step, rate and role follow 01." What each call answers is fixed by its contract, which cites 01's
-  -- definitions; that pages are read back, and nothing else, at both speeds ("Mode 0 is HSM", "Mode 1 is LSM"), is said here:
+  -- is read as a page. Check bits, registers, each step, rate and role follow 01." What each call answers is fixed by its contract, which cites the
+  -- definitions that write 01 out; that pages are read back, and nothing else, at both speeds ("Mode 0 is HSM", "Mode 1 is LSM"), is said here:
   pub high-speed : ReadingBack 0 hsmMode
   pub low-speed : ReadingBack 1 lsmMode
   -- "good if the check bits agree": no small damage makes another page of a page.
@@ -30,9 +32,9 @@ pub record Demands : Type 0 where
   pub no-page-outlives-its-link : NoPageOutlivesItsLink
   -- What it comes to for one module: after Break, no answer depends on any page heard before it, but for these two bits.
   pub as-if-new : AsIfNew
-  -- It speaks of something: two modules that do differ in these bits, and in nothing else that they say.
+  -- It speaks of something: two modules that do differ in bit 6 of 7.513, and in nothing else that they say.
   pub worked-pasts : WorkedPasts
-  -- "One statement covers P1-P14."
+  -- Demands 1 and 2, worked out: "One statement covers P1-P14."
   pub table : Table
   -- "a device that stays in Break" is shut out: a link comes up through every state,
   pub first-link : FirstLink

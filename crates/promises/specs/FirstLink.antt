@@ -1,5 +1,5 @@
--- A link from a fresh device through every state to Up, and down again, with the words of P9: own 850001, partner A90001 (hex). It shows that the
--- steps lead somewhere, and is one of the two pasts that are worked below.
+-- A link from a fresh device through every state to Up, with the words of P9: own 850001, partner A90001 (hex). It shows that the steps lead
+-- somewhere, and is one of the two pasts in WorkedPasts.
 use Prim.Native.Nat.{ℕ, _^_}
 use mathlib.Core.Path.{_≡_}
 use mathlib.Core.Bool.{true, false, cond}
@@ -10,7 +10,7 @@ use Rattle.refusal.specs.Answers.{Said, pageRead, pageOrdered, settledOn, regis
 use Rattle.gap.specs.Modes.{lsmMode}
 use Rattle.line.specs.Transitions.{readings}
 use Rattle.state.specs.declared.State.{State}
-use Rattle.state.specs.declared.State.the-variants.{Break, Ability, Ack, Complete, CheckLink, Up}
+use Rattle.state.specs.declared.State.the-variants.{Off, Break, Ability, Ack, Complete, CheckLink, Up}
 use Rattle.state.specs.Memory.{freshDevice}
 use Rattle.device.specs.declared.events.Event.{Event}
 use Rattle.device.specs.declared.events.Event.the-variants.{Edge, Tick, Sent, Report, Read, Write}
@@ -59,9 +59,10 @@ abbrev pub stateAfter : List Event → State
 stateAfter events = afterAll freshDevice events .state
 
 -- The states, the outcome that is kept, and all that is said on the way: two pages read, the own page ordered three times with Ack 1 and the partner's nonce, 9, echoed,
--- 1000BASE-T1 and slave (P9), and the registers: 513 with Page received, complete and, once it was read, the link latch; 517 and 518 with D15-0
--- and D31-16 of the page that was acknowledged.
+-- 1000BASE-T1 and slave (P9), and the registers: 513 first with Page received and complete, then with complete and the link latch; 517
+-- and 518 with D15-0 and D31-16 of the page that was acknowledged.
 pub record FirstLink : Type 0 where
+  pub off : stateAfter [] ≡ Off
   pub break : stateAfter toBreak ≡ Break
   pub ability : stateAfter toAbility ≡ Ability
   pub ack : stateAfter toAck ≡ Ack

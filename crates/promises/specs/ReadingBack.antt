@@ -1,10 +1,10 @@
 -- The customer's demand 2, for the line. 01, "What the promises have to say": "pages within the windows must be read". They are read as themselves,
 -- and nothing else is read as a page.
-use Prim.Native.Nat.{ℕ, zero, suc, _-_, _^_, _<_, _≤_}
+use Prim.Native.Nat.{ℕ, _-_, _^_, _<_, _≤_}
 use mathlib.Core.Path.{_≡_}
 use mathlib.Core.Bool.{Bool, true, false, cond, _&&_}
 use mathlib.Core.List.{List, [], _∷_, _++_}
-use lib.Dec.{ltb}
+use lib.Dec.{leb}
 use lib.ListN.{length, replicate, drop}
 use Rattle.refusal.specs.Answers.{Said, nothing, refused, pageRead, number}
 use Rattle.gap.specs.declared.modes.LineMode.{LineMode}
@@ -16,17 +16,18 @@ use Rattle.reader.specs.declared.reader.Reader.{Reader}
 use Rattle.reader.specs.declared.reader.Reader.the-variants.{Fresh}
 use Rattle.reader.specs.Reading.{edgeOf}
 use Rattle.reading.specs.Captures.{isOpen, readOf}
+use Rattle.listing_text.specs.Listing.{attemptsFrom}
 use Rattle.promises.specs.FirstLink.{spoken}
 
 -- Edges in the windows of transitions: one edge for each, and between neighbours, k positions apart, a gap that "lies within k·spacing ± tolerance,
--- ends included". The first edge may stand at any reading. Here those behind a transition at p, whose edge is at x,
+-- ends included". The first edge may stand at any reading. Here the edges after one at x, which stands for position p,
 abbrev pub fitsBehind : LineMode → ℕ → ℕ → List ℕ → List ℕ → Bool
 fitsBehind m p x [] [] = true
 fitsBehind m p x [] (y ∷ later) = false
 fitsBehind m p x (q ∷ rest) [] = false
 fitsBehind m p x (q ∷ rest) (y ∷ later) = within m (q - p) (timeBetween y x) && fitsBehind m q y rest later
 
--- and here all.
+-- and here all of them.
 abbrev pub fits : LineMode → List ℕ → List ℕ → Bool
 fits m [] edges = false
 fits m (p ∷ rest) [] = false
@@ -50,29 +51,29 @@ readerAfter m r (x ∷ rest) = readerAfter m (edgeOf m r x .reader) rest
 abbrev pub atTheLast : List ℕ → Said → List Said
 atTheLast edges says = replicate (length edges - 1) nothing ++ (says ∷ [])
 
--- Edges that end with some that carry a word,
+-- Where an attempt may open: at the first edge of all, and at one that "follows a quiet gap", by the edges before it and its own reading.
+abbrev pub opensAfter : LineMode → List ℕ → ℕ → Bool
+opensAfter m [] x = true
+opensAfter m (last ∷ []) x = leb (m .quiet) (timeBetween x last)
+opensAfter m (y ∷ z ∷ before) x = opensAfter m (z ∷ before) x
+
+-- Edges that end with some that carry a word, from one on where an attempt may open,
 pub record EndsWith (m : LineMode) (w : ℕ) (edges : List ℕ) : Type 0 where
   pub before : List ℕ
-  pub page : List ℕ
-  pub whole : edges ≡ before ++ page
+  pub first : ℕ
+  pub later : List ℕ
+  pub whole : edges ≡ before ++ (first ∷ later)
+  pub opened : opensAfter m before first ≡ true
   pub word : w < 2 ^ 48
-  pub carried : Carries m w page
+  pub carried : Carries m w (first ∷ later)
 
--- and edges that begin with such.
+-- and edges that begin with some that carry a word.
 pub record BeginsWith (m : LineMode) (w : ℕ) (edges : List ℕ) : Type 0 where
   pub page : List ℕ
   pub behind : List ℕ
   pub whole : edges ≡ page ++ behind
   pub word : w < 2 ^ 48
   pub carried : Carries m w page
-
--- The read call from place to next place, until the place is the length; so many calls at most.
-abbrev pub callsFrom : ℕ → List ℕ → ℕ → ℕ → List Said
-callsFrom mode capture zero place = []
-callsFrom mode capture (suc more) place =
-    let attempt = readOf mode capture place in
-    let later = callsFrom mode capture more (attempt .next) in
-    cond (ltb place (length capture)) (attempt .says ∷ later) []
 
 -- "the end of the capture counting as quiet": a Cut, if an attempt is open there.
 abbrev pub atTheEnd : Reader → List Said
@@ -84,13 +85,15 @@ pub record ReadingBack (mode : ℕ) (m : LineMode) : Type 0 where
   pub nominal : (w first : ℕ) → Carries m w (readings m w first)
   -- Every word's page, each gap in its window, is read by a fresh reader: nothing is said until its last edge, and there the word.
   pub fresh : (w : ℕ) (edges : List ℕ) → w < 2 ^ 48 → Carries m w edges → saysAlong m Fresh edges ≡ atTheLast edges (pageRead w)
-  -- So it is after any other edges, if quiet lies between. "A quiet gap in an attempt ends it (Cut), and that edge opens the next."
+  -- So it is after any other edges, if quiet lies between. "A quiet gap in an attempt ends it (Cut), and that edge opens the next"; with no attempt open,
+  -- edges are dropped "until one follows a quiet gap; it opens an attempt".
   pub after-quiet : (past : List ℕ) (last x w : ℕ) (edges : List ℕ) → m .quiet ≤ timeBetween x last → w < 2 ^ 48 → Carries m w (x ∷ edges)
       → saysAlong m (readerAfter m Fresh (past ++ (last ∷ []))) (x ∷ edges)
       ≡ cond (isOpen (readerAfter m Fresh (past ++ (last ∷ [])))) (refused 2) nothing ∷ atTheLast edges (pageRead w)
   -- No edges carry two words.
   pub one-word : (v w : ℕ) (edges : List ℕ) → v < 2 ^ 48 → w < 2 ^ 48 → Carries m v edges → Carries m w edges → v ≡ w
-  -- Nothing else is read as a page: where a reader says a word, after whatever edges since it was fresh, the last edges carry it.
+  -- Nothing else is read as a page: where a reader says a word, after whatever edges since it was fresh, the last edges carry it, and the
+  -- first of these was the first of all or followed a quiet gap. "edges are dropped without an answer until one follows a quiet gap"
   pub nothing-else : (past : List ℕ) (x w : ℕ) → edgeOf m (readerAfter m Fresh past) x .says ≡ pageRead w → EndsWith m w (past ++ (x ∷ []))
   -- The read call answers the page that stands at its place, whatever stands behind it,
   pub read : (capture : List ℕ) (place w : ℕ) → BeginsWith m w (drop place capture) → readOf mode capture place .says ≡ pageRead w
@@ -102,7 +105,8 @@ pub record ReadingBack (mode : ℕ) (m : LineMode) : Type 0 where
   -- Reading goes forward and stays in the capture,
   pub forward : (capture : List ℕ) (place : ℕ) → place < length capture
       → (place < readOf mode capture place .next) × (readOf mode capture place .next ≤ length capture)
-  -- and so ends: as many calls as there are edges left tell each attempt once and in order, as a reader tells them edge by edge.
+  -- and so ends: as many calls as there are edges left, each at the next place of the one before, tell each attempt once and in order, as a reader
+  -- tells them edge by edge.
   pub each-once : (capture : List ℕ) (place more : ℕ) → length capture - place ≤ more
-      → callsFrom mode capture more place
+      → attemptsFrom more mode capture place
       ≡ spoken (saysAlong m Fresh (drop place capture)) ++ atTheEnd (readerAfter m Fresh (drop place capture))

@@ -14,7 +14,7 @@ use Rattle.reader.specs.declared.reader.Reader.the-variants.{Open, Dropping}
 use Rattle.reading.specs.Captures.{readOf}
 use Rattle.state.specs.declared.State.{State}
 use Rattle.state.specs.declared.State.the-variants.{Break, Ability, CheckLink}
-use Rattle.state.specs.Memory.{freshDevice}
+use Rattle.state.specs.Memory.{freshDevice, withReader}
 use Rattle.device.specs.declared.events.Event.{Event}
 use Rattle.device.specs.declared.events.Event.the-variants.{Edge, Tick, Sent, Report, Read, Write}
 use Rattle.device.specs.Steps.{stepDue, saysTo, afterAll}
@@ -63,8 +63,9 @@ pub record EachRefusal : Type 0 where
   pub cut : Ended (toAbility ++ (Edge 8001000 ∷ Edge 8004441 ∷ [])) 2 (Open 1 8004441 0)
   -- 3, Check: the check bits of A90001 are not zero. Position 157 is 124 800 ns after the first.
   pub check : Ended (toAbility ++ pageUnchecked 8001000 0xA90001) 3 (Dropping 8125800)
-  -- 4, Selector: a page with S = 2. "device stays"
+  -- 4, Selector: a page with S = 2. "device stays": all of it but the reader, which drops edges from then on.
   pub selector : Run (toAbility ++ pageFrom 8001000 0xA90002) (refused 4 ∷ []) Ability
+  pub selector-stays : afterAll freshDevice (toAbility ++ pageFrom 8001000 0xA90002) ≡ withReader (Dropping 8125800) (afterAll freshDevice toAbility)
   -- 5, Tie: the partner has drawn 5 as well. "Break"
   pub tie : Run (toAbility ++ pageFrom 8001000 0xA50001) (refused 5 ∷ []) Break
   -- 6, Changed: the second page has A1 as well. "Break"
@@ -84,12 +85,12 @@ pub record EachRefusal : Type 0 where
   pub turn-off : Kept [] (Sent 0) 11
   pub turn-break : Kept toBreak (Sent 1) 11
   pub turn-no-page : Kept toAck (Sent 8200000) 11
-  -- 12, Room: "place past the end; writing: entries from it on fewer than the page's; list kept". The zero page has 81 at high speed.
+  -- 12, Room: "place past the end; writing: entries from it on fewer than the page's; list kept". The zero page has 81 readings at high speed.
   pub room-read : readOf 0 (replicate 81 7) 82 .says ≡ refused 12
   pub room-past-end : ListKept 0 (replicate 81 7) 82 0 12
   pub room-fewer : ListKept 0 (replicate 80 7) 0 0 12
-  -- A run of one event, a tick, with no room for its answer.
-  pub room-run : (runSays (1 ∷ 0 ∷ 0 ∷ []) [] ≡ refused 12) × (runLeaves (1 ∷ 0 ∷ 0 ∷ []) [] ≡ [])
+  -- A run of two events, both ticks, with room for one answer.
+  pub room-run : (runSays (1 ∷ 0 ∷ 0 ∷ 1 ∷ 0 ∷ 0 ∷ []) (7 ∷ []) ≡ refused 12) × (runLeaves (1 ∷ 0 ∷ 0 ∷ 1 ∷ 0 ∷ 0 ∷ []) (7 ∷ []) ≡ 7 ∷ [])
   -- 13, Wide: "word 2^48 or more; list kept"
   pub wide : ListKept 0 (replicate 150 7) 0 (2 ^ 48) 13
   -- 14, Mode: "not 0 or 1; list kept"

@@ -9,7 +9,7 @@ use Rattle.check_bits.specs.CheckBits.{plus, generator, checkList}
 use Rattle.gap.specs.Delimiters.{among}
 use Rattle.line.specs.Transitions.{transitions}
 
--- A polynomial times x^16 + x^15 + x^2 + 1: at the power of each coefficient that is one the divisor, all added up.
+-- A polynomial times x^16 + x^15 + x^2 + 1: the divisor added in once at the power of each coefficient that is one.
 abbrev pub multipleBy : List Bool → List Bool
 multipleBy [] = replicate 16 false
 multipleBy (b ∷ q) = plus (cond b generator []) (false ∷ multipleBy q)
@@ -27,7 +27,8 @@ pub record FarApart (page other : List ℕ) : Type 0 where
   pub spread : (start : ℕ) → ((p : ℕ) → (start ≤ p → p < start + 32 → ⊥) → among p page ≡ among p other) → ⊥
 
 pub record SmallDamage : Type 0 where
-  -- "The remainder is that of the 48 bits times x^16": less the remainder, which is the 48 bits with the check bits behind them, they are a multiple;
+  -- "The remainder is that of the 48 bits times x^16". The 48 bits times x^16, less the remainder, are the 48 bits followed by the check bits, and these
+  -- are a multiple of the polynomial;
   pub divides : (w : ℕ) → (q : List Bool) × (multipleBy q ≡ bitsOf 48 w ++ checkList w)
   -- and no other sixteen bits make them one.
   pub no-other : (w : ℕ) (q bits : List Bool) → length bits ≡ 16 → multipleBy q ≡ bitsOf 48 w ++ bits → bits ≡ checkList w

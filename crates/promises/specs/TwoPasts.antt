@@ -18,7 +18,7 @@ use Rattle.device.specs.declared.events.Event.{Event}
 use Rattle.device.specs.declared.events.Event.the-variants.{Edge, Tick, Sent, Report, Read, Write, Unnamed}
 use Rattle.device.specs.Steps.{stepDue, saysTo, afterAll}
 
--- "each just gone into Break": the device is in Break after the event, and was not before it, or the event restarts it there.
+-- Whether a state is Break.
 abbrev pub isBreak : State → Bool
 isBreak Off = false
 isBreak Break = true
@@ -38,6 +38,7 @@ restarts (Read reading register) = false
 restarts (Write reading register value) = eqb register 512 && (hasBit value 12 && hasBit value 9)
 restarts Unnamed = false
 
+-- "each just gone into Break": the device is in Break after the event, and was not before it, or the event restarts it there.
 abbrev pub entersBreak : Event → Device → Bool
 entersBreak e d = isBreak (stepDue e d .device .state) && (not (isBreak (d .state)) || restarts e)
 
@@ -65,10 +66,11 @@ readingOf Unnamed = 0
 abbrev pub difference : Module → Module → ℕ
 difference first second = timeBetween (readingOf (second .entry)) (readingOf (first .entry))
 
--- "the same .. events and draws (the second's clock readings shifted by ..)": nothing but the reading changes.
+-- A clock reading "shifted by the difference", modulo 2^32.
 abbrev pub shifted : ℕ → ℕ → ℕ
 shifted δ reading = (reading + δ) % 2 ^ 32
 
+-- "the same later events and draws (the second's clock readings shifted by ..)": nothing but the reading changes.
 abbrev pub shiftedBy : ℕ → Event → Event
 shiftedBy δ (Edge reading) = Edge (shifted δ reading)
 shiftedBy δ (Tick reading draw) = Tick (shifted δ reading) draw
@@ -82,7 +84,7 @@ shiftedBy δ Unnamed = Unnamed
 unfoldable pub without6And4 : Said → Said
 without6And4 s = saying (s .kind) (s .value % 2 ^ 4 + (((s .value / 2 ^ 5) % 2) * 2 ^ 5 + (s .value / 2 ^ 7) * 2 ^ 7))
 
--- "up to and with its first read"
+-- Whether an event is a read of 7.513.
 abbrev pub readsStatus : Event → Bool
 readsStatus (Edge reading) = false
 readsStatus (Tick reading draw) = false
@@ -92,17 +94,19 @@ readsStatus (Read reading register) = eqb register 513
 readsStatus (Write reading register value) = false
 readsStatus Unnamed = false
 
--- "the same answers": an answer for each event, whole but for the first to a read of 7.513, which is taken without bits 6 and 4.
+-- "the same answers", and "up to and with its first read": an answer for each event, whole but for the first to a read of 7.513, which is taken without
+-- bits 6 and 4.
 unfoldable pub compared : List Event → List Said → List Said
 compared [] says = says
 compared (e ∷ later) [] = []
 compared (e ∷ later) (s ∷ rest) = cond (readsStatus e) (without6And4 s ∷ rest) (s ∷ compared later rest)
 
--- "register values": what a read of a register would answer after all events, whole but for 7.513 if it has not been read.
+-- Whether 7.513 is read in a row of events.
 unfoldable pub statusWasRead : List Event → Bool
 statusWasRead [] = false
 statusWasRead (e ∷ later) = readsStatus e || statusWasRead later
 
+-- "register values": what a read of a register would answer after all events, whole but for 7.513 if it has not been read.
 unfoldable pub comparedValue : List Event → ℕ → Said → Said
 comparedValue later register value = cond (eqb register 513 && not (statusWasRead later)) (without6And4 value) value
 

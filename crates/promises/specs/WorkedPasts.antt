@@ -1,15 +1,16 @@
--- Two pasts as far apart as they can be, and what demand 3 comes to for them.
+-- Two very different pasts, and what demand 3 comes to for them.
 use Prim.Native.Nat.{ℕ, _^_}
 use mathlib.Core.Path.{_≡_}
 use mathlib.Core.Bool.{true, false}
 use mathlib.Core.List.{List, [], _∷_, map}
 use Rattle.refusal.specs.Answers.{Said, nothing, pageOrdered, registerValue}
+use Rattle.gap.specs.Clock.{timeBetween}
 use Rattle.state.specs.declared.Device.{Device}
 use Rattle.state.specs.Memory.{freshDevice}
 use Rattle.device.specs.declared.events.Event.{Event}
 use Rattle.device.specs.declared.events.Event.the-variants.{Tick, Report, Read, Write}
 use Rattle.device.specs.Steps.{stepDue, saysTo, afterAll}
-use Rattle.promises.specs.TwoPasts.{entersBreak, shiftedBy}
+use Rattle.promises.specs.TwoPasts.{entersBreak, readingOf, shiftedBy}
 use Rattle.promises.specs.FirstLink.{toUp}
 
 -- The first has never heard a page: A2 is advertised, and it is enabled 296 ns before the clock rolls over.
@@ -36,10 +37,13 @@ secondDevice = stepDue secondEntry (afterAll freshDevice secondPast) .device
 abbrev pub laterEvents : List Event
 laterEvents = Tick 7999703 9 ∷ Tick 7999704 9 ∷ Tick 8349704 0 ∷ Read 8349705 513 ∷ Read 8349706 513 ∷ Read 8349707 517 ∷ []
 
+-- Demand 3's premises hold: each has just gone into Break, the advertisements agree, and the shift is the difference of the entry readings modulo 2^32.
 -- Both say the same, but for bit 6 of 513 at its first read, 08 and 48 hex: the second had received a page.
 pub record WorkedPasts : Type 0 where
   pub first-enters : entersBreak firstEntry (afterAll freshDevice firstPast) ≡ true
   pub second-enters : entersBreak secondEntry (afterAll freshDevice secondPast) ≡ true
+  pub same-advertised : firstDevice .advertised ≡ secondDevice .advertised
+  pub apart : timeBetween (readingOf secondEntry) (readingOf firstEntry) ≡ 9600296
   pub first-says : saysTo firstDevice laterEvents
       ≡ nothing ∷ nothing ∷ pageOrdered 0x890001 ∷ registerValue 0x08 ∷ registerValue 0x08 ∷ registerValue 0 ∷ []
   pub second-says : saysTo secondDevice (map (shiftedBy 9600296) laterEvents)

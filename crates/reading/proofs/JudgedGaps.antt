@@ -63,6 +63,19 @@ judged-counted m gap k =
     none true h = absurd (let z : _≡_ {A = ℕ} 0 1 = cc h in omega arith)
     none false h = absurd (let z : _≡_ {A = ℕ} 0 1 = cc h in omega arith)
 
+-- A gap that is judged quiet is at the quiet limit or more.
+pub judged-quiet : (m : LineMode) (gap : ℕ) → judgementOf m gap ≡ Quiet → leb (m .quiet) gap ≡ true
+unfolding judgementOf
+judged-quiet m gap = none 1 (within m 1 gap) _ (none 2 (within m 2 gap) _ (none 3 (within m 3 gap) _ (none 4 (within m 4 gap) _ (last (leb (m .quiet) gap)))))
+  where
+    none : (k : ℕ) (t : Bool) (others : Judgement) → (others ≡ Quiet → leb (m .quiet) gap ≡ true) → cond t (Positions k) others ≡ Quiet → leb (m .quiet) gap ≡ true
+    none k true others later h = absurd (let z : _≡_ {A = ℕ} 0 1 = cc h in omega arith)
+    none k false others later h = later h
+
+    last : (t : Bool) → cond t Quiet Unfit ≡ Quiet → t ≡ true
+    last true h = refl
+    last false h = absurd (let z : _≡_ {A = ℕ} 0 1 = cc h in omega arith)
+
 -- Gaps that are judged to be so many positions each.
 pub all-near : (m : LineMode) (ks times : List ℕ) → map (judgementOf m) times ≡ map Positions ks → Forall₂ (Near m) ks times
 all-near m [] [] h = Forall₂·nil

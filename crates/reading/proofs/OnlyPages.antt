@@ -29,11 +29,11 @@ use Rattle.reading.proofs.GapMachine.{passes, bitsAfter, pass, gapsOf, 
 use Rattle.reading.proofs.SentGaps.{transition-gaps}
 use Rattle.reading.proofs.ReadBits.{pushed-all, agreeing}
 
--- What an edge of an open attempt brings: Cut and a new attempt; another refusal; or its gap is a count that the pattern asks for, and it is
+-- What an edge of an open attempt brings: Cut and a new attempt, where its gap is quiet; another refusal; or its gap is a count that the pattern asks for, and it is
 -- passed, or ends a page.
 module _ (slow : Bool) (p bits reading : ℕ) where
   pub data Edge (j : Judgement) : Type 0 where
-    cut : goesOn slow p bits reading j ≡ bring (refused 2) (Open 1 reading 0) → Edge j
+    cut : j ≡ Quiet → goesOn slow p bits reading j ≡ bring (refused 2) (Open 1 reading 0) → Edge j
     wrong : (n : ℕ) → 1 ≤ n → n ≤ 3 → goesOn slow p bits reading j ≡ bring (refused n) (Dropping reading) → Edge j
     passing : (k : ℕ) → j ≡ Positions k → asks slow p k ≡ true
         → goesOn slow p bits reading j ≡ bring nothing (Open (p + k) reading (withBit p k bits)) → Edge j
@@ -42,7 +42,7 @@ module _ (slow : Bool) (p bits reading : ℕ) where
 
   pub edge-cases : (j : Judgement) → Edge j
   unfolding goesOn arrives
-  edge-cases Quiet = cut refl
+  edge-cases Quiet = cut refl refl
   edge-cases Unfit = wrong 1 (omega arith) (omega arith) refl
   edge-cases (Positions k) = by (asks slow p k) refl (eqb (p + k) 157) refl (agrees (withBit p k bits)) refl
     where
@@ -68,7 +68,7 @@ module _ (m : LineMode) (p x bits w y : ℕ) where
   -- The edge that says the page,
   last-edge : Edge (m .slow) p bits y (judgementOf m (timeBetween y x)) → goesOn (m .slow) p bits y (judgementOf m (timeBetween y x)) .says ≡ pageRead w
       → Walk m p x bits w (y ∷ [])
-  last-edge (cut e) h = absurd (let f = same-kind e h in omega arith)
+  last-edge (cut q e) h = absurd (let f = same-kind e h in omega arith)
   last-edge (wrong n l u e) h = absurd (let f = same-kind e h in omega arith)
   last-edge (passing k j a e) h = absurd (let f = same-kind e h in omega arith)
   last-edge (ending k j a end g e) h =
@@ -86,7 +86,7 @@ module _ (m : LineMode) (p x bits w y : ℕ) where
       → ((k : ℕ) → goesOn (m .slow) p bits y (judgementOf m (timeBetween y x)) .reader ≡ Open (p + k) y (withBit p k bits)
       → Walk m (p + k) y (withBit p k bits) w edges)
       → goesOn (m .slow) p bits y (judgementOf m (timeBetween y x)) .says ≡ nothing → Walk m p x bits w (y ∷ edges)
-  edge-before edges (cut e) later h = absurd (let f = same-kind e h in omega arith)
+  edge-before edges (cut q e) later h = absurd (let f = same-kind e h in omega arith)
   edge-before edges (wrong n l u e) later h = absurd (let f = same-kind e h in omega arith)
   edge-before edges (ending k j a end g e) later h = absurd (let f = same-kind e h in omega arith)
   edge-before edges (passing k j a e) later h =

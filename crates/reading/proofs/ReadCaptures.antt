@@ -64,7 +64,7 @@ kind-nothing m (Dropping last) x h = shut-says m (Dropping last) x refl
 kind-nothing m (Open at last bits) x h = by (edge-cases (m .slow) at bits x (judgementOf m (timeBetween x last)))
   where
     by : Edge (m .slow) at bits x (judgementOf m (timeBetween x last)) → edgeOf m (Open at last bits) x .says ≡ nothing
-    by (cut e) = absurd (let f = sym h ∙ ap (λ (b : Brings). b .says .kind) e in omega arith)
+    by (cut q e) = absurd (let f = sym h ∙ ap (λ (b : Brings). b .says .kind) e in omega arith)
     by (wrong n l u e) = absurd (let f = sym h ∙ ap (λ (b : Brings). b .says .kind) e in omega arith)
     by (passing n j a e) = ap (λ (b : Brings). b .says) e
     by (ending n j a end g e) = absurd (let f = sym h ∙ ap (λ (b : Brings). b .says .kind) e in omega arith)

@@ -1,10 +1,11 @@
 -- Whatever edges came before: where a reader that was fresh once says a page, the edges since the one that opened the attempt were sent for it.
 -- Edge by edge, a reader either holds no attempt, or the edges since it opened one were all answered nothing.
 use mathlib.Core.Path.{_≡_, refl, sym, ap, ap₂, _∙_, subst}
-use mathlib.Core.Bool.{true, false}
+use mathlib.Core.Bool.{Bool, true, false}
 use mathlib.Core.List.{List, [], _∷_, _++_, append-assoc, append-nil}
 use Prim.Native.Nat.{ℕ}
 use native.Mathlib.Omega.{arith}
+use lib.Dec.{leb}
 use lib.ListN.{length, replicate, length-append, replicate-append-replicate}
 use Rattle.refusal.specs.Answers.{Said, nothing, pageRead}
 use Rattle.gap.specs.declared.modes.LineMode.{LineMode}
@@ -17,6 +18,7 @@ use Rattle.gap.specs.Gaps.{judgementOf}
 use Rattle.reader.specs.Reading.{Brings, dropsOn, edgeOf}
 use Rattle.reading.specs.Captures.{isOpen}
 use Rattle.reading.proofs.EdgeRuns.{saidAlong, readerAfter, WasSent}
+use Rattle.reading.proofs.JudgedGaps.{judged-quiet}
 use Rattle.reading.proofs.OnlyPages.{Edge, cut, wrong, passing, ending, edge-cases, only-sent}
 use Rattle.reading.proofs.ReadCaptures.{shut-says}
 
@@ -29,36 +31,43 @@ after-append : (m : LineMode) (r : Reader) (a b : List ℕ) → readerAfter m r 
 after-append m r [] b = refl
 after-append m r (x ∷ a) b = after-append m (edgeOf m r x .reader) a b
 
--- What an edge does to a reader: it opens an attempt, or leaves none open, or the attempt goes on without an answer.
+-- Whether an edge is the first of all to a reader, or came at the quiet limit or more after the one before.
+abbrev pub startsAt : LineMode → Reader → ℕ → Bool
+startsAt m Fresh x = true
+startsAt m (Open at last bits) x = leb (m .quiet) (timeBetween x last)
+startsAt m (Dropping last) x = leb (m .quiet) (timeBetween x last)
+
+-- What an edge does to a reader: it opens an attempt, which only such an edge does; or leaves none open; or the attempt goes on without an answer.
 data Turn (m : LineMode) (r : Reader) (x : ℕ) : Type 0 where
-  opens : edgeOf m r x .reader ≡ Open 1 x 0 → Turn m r x
+  opens : startsAt m r x ≡ true → edgeOf m r x .reader ≡ Open 1 x 0 → Turn m r x
   shuts : isOpen (edgeOf m r x .reader) ≡ false → Turn m r x
   goes : isOpen r ≡ true → edgeOf m r x .says ≡ nothing → Turn m r x
 
 -- Each edge does one of these.
 turn : (m : LineMode) (r : Reader) (x : ℕ) → Turn m r x
 unfolding edgeOf dropsOn
-turn m Fresh x = opens refl
+turn m Fresh x = opens refl refl
 turn m (Dropping last) x = by (judgementOf m (timeBetween x last)) refl
   where
     by : (j : Judgement) → judgementOf m (timeBetween x last) ≡ j → Turn m (Dropping last) x
-    by Quiet e = opens (rw e)
+    by Quiet e = opens (judged-quiet m (timeBetween x last) e) (rw e)
     by Unfit e = shuts (rw e)
     by (Positions k) e = shuts (rw e)
 turn m (Open at last bits) x = by (edge-cases (m .slow) at bits x (judgementOf m (timeBetween x last)))
   where
     by : Edge (m .slow) at bits x (judgementOf m (timeBetween x last)) → Turn m (Open at last bits) x
-    by (cut e) = opens (ap (λ (b : Brings). b .reader) e)
+    by (cut q e) = opens (judged-quiet m (timeBetween x last) q) (ap (λ (b : Brings). b .reader) e)
     by (wrong n l u e) = shuts (ap (λ (b : Brings). isOpen (b .reader)) e)
     by (passing k j a e) = goes refl (ap (λ (b : Brings). b .says) e)
     by (ending k j a end g e) = shuts (ap (λ (b : Brings). isOpen (b .reader)) e)
 
--- The edge that opened an attempt, and those since, all answered nothing.
+-- The edge that opened an attempt, the first of all or after quiet, and those since, all answered nothing.
 pub record Opened (m : LineMode) (past : List ℕ) : Type 0 where
   pub before : List ℕ
   pub first : ℕ
   pub since : List ℕ
   pub whole : past ≡ before ++ (first ∷ since)
+  pub starts : startsAt m (readerAfter m Fresh before) first ≡ true
   pub opened : readerAfter m Fresh (before ++ (first ∷ [])) ≡ Open 1 first 0
   pub silent : saidAlong m (Open 1 first 0) since ≡ replicate (length since) nothing
 
@@ -76,8 +85,8 @@ since-opened m past o =
 
 -- It does so after one edge more,
 holds-more : (m : LineMode) (past : List ℕ) (x : ℕ) → Holds m past → Turn m (readerAfter m Fresh past) x → Holds m (past ++ (x ∷ []))
-holds-more m past x h (opens e) =
-    attempt (record { before = past; first = x; since = []; whole = refl; opened = after-append m Fresh past (x ∷ []) ∙ e; silent = refl })
+holds-more m past x h (opens s e) =
+    attempt (record { before = past; first = x; since = []; whole = refl; starts = s; opened = after-append m Fresh past (x ∷ []) ∙ e; silent = refl })
 holds-more m past x h (shuts e) = none (ap isOpen (after-append m Fresh past (x ∷ [])) ∙ e)
 holds-more m past x (none n) (goes o e) = absurd (let z : _≡_ {A = ℕ} 0 1 = cc in omega arith)
 holds-more m past x (attempt p) (goes o e) =
@@ -87,6 +96,7 @@ holds-more m past x (attempt p) (goes o e) =
       first = p .first;
       since = p .since ++ (x ∷ []);
       whole = ap (λ (l : List ℕ). l ++ (x ∷ [])) (p .whole) ∙ append-assoc (p .before) (p .first ∷ p .since) (x ∷ []);
+      starts = p .starts;
       opened = p .opened;
       silent =
           said-append m (Open 1 (p .first) 0) (p .since) (x ∷ [])
