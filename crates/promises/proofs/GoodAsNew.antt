@@ -1,15 +1,14 @@
 -- A module that has just gone into Break is as good as new: it and a new one are twins on the same clock.
 use Prim.Native.Nat.{ℕ}
-use mathlib.Core.Path.{_≡_, refl, sym, ap, _∙_, subst}
-use mathlib.Core.List.{List, map}
+use mathlib.Core.Path.{_≡_, refl, sym, subst}
+use mathlib.Core.List.{List}
 use Rattle.state.specs.declared.PageRegisters.{PageRegisters}
-use Rattle.state.specs.declared.Flags.{Flags}
 use Rattle.state.specs.declared.Device.{Device}
 use Rattle.state.specs.Memory.{freshDevice, intoBreak, withAdvertised}
 use Rattle.registers.specs.Registers.{registerOf, commanded, writeDue}
 use Rattle.device.specs.declared.events.Event.{Event}
 use Rattle.device.specs.Steps.{stepOver, afterAll}
-use Rattle.promises.specs.TwoPasts.{Module, deviceOf, readingOf, shiftedBy, Same}
+use Rattle.promises.specs.TwoPasts.{readingOf, Same}
 use Rattle.promises.specs.AsIfNew.{switchedOn, AsIfNew}
 use Rattle.promises.proofs.TwinRuns.{same-runs}
 use Rattle.promises.proofs.NoPageOutlives.{same-both, has-entered}

@@ -1,5 +1,5 @@
 -- 01, "Proved in a single table": "One statement covers P1-P14."
-use Prim.Native.Nat.{ℕ, _^_}
+use Prim.Native.Nat.{_^_}
 use mathlib.Core.Path.{_≡_}
 use mathlib.Core.Bool.{true, false}
 use lib.ListN.{getD}

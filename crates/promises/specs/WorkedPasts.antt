@@ -1,9 +1,9 @@
 -- Two very different pasts, and what demand 3 comes to for them.
-use Prim.Native.Nat.{ℕ, _^_}
+use Prim.Native.Nat.{_^_}
 use mathlib.Core.Path.{_≡_}
 use mathlib.Core.Bool.{true, false}
 use mathlib.Core.List.{List, [], _∷_, map}
-use Rattle.refusal.specs.Answers.{Said, nothing, pageOrdered, registerValue}
+use Rattle.refusal.specs.Answers.{nothing, pageOrdered, registerValue}
 use Rattle.gap.specs.Clock.{timeBetween}
 use Rattle.state.specs.declared.Device.{Device}
 use Rattle.state.specs.Memory.{freshDevice}
