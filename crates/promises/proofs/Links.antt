@@ -19,6 +19,7 @@ use Rattle.closing.specs.Sending.{counted, sentDue}
 use Rattle.closing.specs.Reports.{reportDue}
 use Rattle.device.specs.Steps.{stepOver, saysTo, afterAll}
 use Rattle.promises.specs.FirstLink.{spoken, FirstLink}
+use Rattle.promises.specs.TwoPasts.{without6And4}
 use Rattle.promises.specs.WorkedPasts.{WorkedPasts}
 
 pub first-link : FirstLink
@@ -27,5 +28,5 @@ first-link =
     record { off = refl; break = refl; ability = refl; ack = refl; complete = refl; check-link = refl; outcome = refl; up = refl; says = refl }
 
 pub worked-pasts : WorkedPasts
-unfolding afterAll saysTo stepOver tickDue writeDue readDue sentDue reportDue registerOf commanded statusBits ownPage echoingPage nonceFor wordOf beyondAckAndEcho part withPart edgeDue listened edgeOf goesOn dropsOn judgementOf asks always byBit arrives isClock agrees checkBits checkList remainder xor readings transitions positionsTo hasTransition sentBits pageIn pageInAbility pageInAck mayOrder orders counted resolutionOf hasAbility roleOf
-worked-pasts = record { first-enters = refl; second-enters = refl; same-advertised = refl; apart = refl; first-says = refl; second-says = refl }
+unfolding without6And4 afterAll saysTo stepOver tickDue writeDue readDue sentDue reportDue registerOf commanded statusBits ownPage echoingPage nonceFor wordOf beyondAckAndEcho part withPart edgeDue listened edgeOf goesOn dropsOn judgementOf asks always byBit arrives isClock agrees checkBits checkList remainder xor readings transitions positionsTo hasTransition sentBits pageIn pageInAbility pageInAck mayOrder orders counted resolutionOf hasAbility roleOf
+worked-pasts = record { first-enters = refl; second-enters = refl; same-advertised = refl; apart = refl; all-but-two = refl; first-says = refl; second-says = refl }

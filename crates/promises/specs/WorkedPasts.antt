@@ -10,7 +10,7 @@ use Rattle.state.specs.Memory.{freshDevice}
 use Rattle.device.specs.declared.events.Event.{Event}
 use Rattle.device.specs.declared.events.Event.the-variants.{Tick, Report, Read, Write}
 use Rattle.device.specs.Steps.{stepDue, saysTo, afterAll}
-use Rattle.promises.specs.TwoPasts.{entersBreak, readingOf, shiftedBy}
+use Rattle.promises.specs.TwoPasts.{entersBreak, readingOf, shiftedBy, without6And4}
 use Rattle.promises.specs.FirstLink.{toUp}
 
 -- The first has never heard a page: A2 is advertised, and it is enabled 296 ns before the clock rolls over.
@@ -33,17 +33,19 @@ firstDevice = stepDue firstEntry (afterAll freshDevice firstPast) .device
 abbrev pub secondDevice : Device
 secondDevice = stepDue secondEntry (afterAll freshDevice secondPast) .device
 
--- Later the break timer runs out, a page is ordered, 513 is read twice, and 517 once.
+-- Later the break timer runs out, just at the second tick: the own page has the 9 that is drawn there, and not the 8 before it. The page is ordered, 513 is read
+-- twice, and 517 once.
 abbrev pub laterEvents : List Event
-laterEvents = Tick 7999703 9 ∷ Tick 7999704 9 ∷ Tick 8349704 0 ∷ Read 8349705 513 ∷ Read 8349706 513 ∷ Read 8349707 517 ∷ []
+laterEvents = Tick 7999703 8 ∷ Tick 7999704 9 ∷ Tick 8349704 0 ∷ Read 8349705 513 ∷ Read 8349706 513 ∷ Read 8349707 517 ∷ []
 
 -- Demand 3's premises hold: each has just gone into Break, the advertisements agree, and the shift is the difference of the entry readings modulo 2^32.
--- Both say the same, but for bit 6 of 513 at its first read, 08 and 48 hex: the second had received a page.
+-- Both say the same, but for bit 6 of 513 at its first read, 08 and 48 hex: the second had received a page. Of sixteen ones, all but bits 6 and 4 are compared.
 pub record WorkedPasts : Type 0 where
   pub first-enters : entersBreak firstEntry (afterAll freshDevice firstPast) ≡ true
   pub second-enters : entersBreak secondEntry (afterAll freshDevice secondPast) ≡ true
   pub same-advertised : firstDevice .advertised ≡ secondDevice .advertised
   pub apart : timeBetween (readingOf secondEntry) (readingOf firstEntry) ≡ 9600296
+  pub all-but-two : without6And4 (registerValue 0xFFFF) ≡ registerValue 0xFFAF
   pub first-says : saysTo firstDevice laterEvents
       ≡ nothing ∷ nothing ∷ pageOrdered 0x890001 ∷ registerValue 0x08 ∷ registerValue 0x08 ∷ registerValue 0 ∷ []
   pub second-says : saysTo secondDevice (map (shiftedBy 9600296) laterEvents)
