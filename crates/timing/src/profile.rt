@@ -32,6 +32,9 @@ pub(crate) fn run_out(number: u32, start: u32, reading: u32) -> bool
     number <= time_between(reading, start)
 }
 
+// The inhibit timer's number for most rates, and without one.
+const INHIBIT: u32 = 97500000;
+
 // The inhibit timer's number for a rate.
 fn inhibit_for(ability: u8) -> u32
     ensures { λ r. ⌜ r ≡ inhibitFor ability ⌝ }
@@ -45,7 +48,7 @@ fn inhibit_for(ability: u8) -> u32
     if ability == 9 {
         return 3060000000;
     }
-    97500000
+    INHIBIT
 }
 
 // The inhibit timer's number for an outcome.
@@ -54,13 +57,13 @@ pub(crate) fn inhibit_of(outcome: Answer) -> u32
 {
     match outcome {
         Answer::Settled { ability, master } => inhibit_for(ability),
-        Answer::Nothing => 97500000,
-        Answer::Refused(refusal) => 97500000,
-        Answer::Page(word) => 97500000,
-        Answer::Order(word) => 97500000,
-        Answer::Value(value) => 97500000,
-        Answer::Number(number) => 97500000,
-        Answer::Quiet => 97500000,
-        Answer::Unfit => 97500000,
+        Answer::Nothing => INHIBIT,
+        Answer::Refused(refusal) => INHIBIT,
+        Answer::Page(word) => INHIBIT,
+        Answer::Order(word) => INHIBIT,
+        Answer::Value(value) => INHIBIT,
+        Answer::Number(number) => INHIBIT,
+        Answer::Quiet => INHIBIT,
+        Answer::Unfit => INHIBIT,
     }
 }
