@@ -11,8 +11,8 @@ use Rattle.timing.specs.declared.profile.Profile.{Profile}
 use Rattle.timing.specs.Timers.{lowSpeed}
 use Rattle.hearing.specs.Edges.{edgeDue}
 use Rattle.timing.specs.Ticks.{tickDue}
-use Rattle.closing.specs.Sending.{sentDue}
-use Rattle.closing.specs.Reports.{reportDue}
+use Rattle.timing.specs.Sending.{sentDue}
+use Rattle.timing.specs.Reports.{reportDue}
 use Rattle.device.specs.declared.events.Event.{Event}
 use Rattle.device.specs.declared.events.Event.the-variants.{Edge, Tick, Sent, Report, Read, Write, Unnamed}
 

@@ -40,8 +40,8 @@ pub fn step(device: Device, event: Event) -> Reply
     match event {
         Event::Edge { reading } => hearing::edge(device, reading),
         Event::Tick { reading, draw } => timing::tick(device, reading, draw),
-        Event::Sent { reading } => closing::sent(device, reading),
-        Event::Report { reading, up } => closing::report(device, reading, up),
+        Event::Sent { reading } => timing::sent(device, reading),
+        Event::Report { reading, up } => timing::report(device, reading, up),
         Event::Read { reading, register } => registers::read(device, register),
         Event::Write {
             reading,

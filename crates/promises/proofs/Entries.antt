@@ -21,8 +21,8 @@ use Rattle.timing.specs.declared.profile.Profile.{Profile}
 use Rattle.timing.specs.Timers.{runOut, inhibitOf}
 use Rattle.hearing.specs.Edges.{isChanged, isTalking, echoesOther, pageInAbility, pageInAck, pageIn, listened, edgeDue}
 use Rattle.timing.specs.Ticks.{mayOrder, orders, tickIn, tickDue}
-use Rattle.closing.specs.Sending.{counted, sentIn, sentDue}
-use Rattle.closing.specs.Reports.{hasRate, reportIn, reportDue}
+use Rattle.timing.specs.Sending.{counted, sentIn, sentDue}
+use Rattle.timing.specs.Reports.{hasRate, reportIn, reportDue}
 use Rattle.device.specs.declared.events.Event.{Event}
 use Rattle.device.specs.declared.events.Event.the-variants.{Edge, Tick, Sent, Report, Read, Write, Unnamed}
 use Rattle.device.specs.Steps.{stepOver}

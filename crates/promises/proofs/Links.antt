@@ -15,8 +15,8 @@ use Rattle.state.specs.Memory.{wordOf}
 use Rattle.timing.specs.OwnPages.{nonceFor, ownPage, echoingPage}
 use Rattle.hearing.specs.Edges.{beyondAckAndEcho, pageInAbility, pageInAck, pageIn, listened, edgeDue}
 use Rattle.timing.specs.Ticks.{mayOrder, orders, tickDue}
-use Rattle.closing.specs.Sending.{counted, sentDue}
-use Rattle.closing.specs.Reports.{reportDue}
+use Rattle.timing.specs.Sending.{counted, sentDue}
+use Rattle.timing.specs.Reports.{reportDue}
 use Rattle.device.specs.Steps.{stepOver, saysTo, afterAll}
 use Rattle.promises.specs.FirstLink.{spoken, FirstLink}
 use Rattle.promises.specs.TwoPasts.{without6And4}

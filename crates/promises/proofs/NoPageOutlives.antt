@@ -69,8 +69,13 @@ entered-twins : (r s : ℕ) (d c : Device) → d .advertised ≡ c .advertised
     → twin (timeBetween s r) (c .flags) (intoBreak r d) ≡ twin 0 (c .flags) (intoBreak s c)
 entered-twins r s d c same = ap₂ (λ (time : ℕ) (a : PageRegisters). intoBreak time (withAdvertised a c)) (meets r s) same
 
-pub entered-same : (r s : ℕ) (d c : Device) (later : List Event) → d .advertised ≡ c .advertised
+-- What two devices show that have entered Break with the same advertisement, whatever they were before.
+abbrev EnteredSame : Type 0
+EnteredSame =
+    (r s : ℕ) (d c : Device) (later : List Event) → d .advertised ≡ c .advertised
     → Same (intoBreak r d) later (intoBreak s c) (map (shiftedBy (timeBetween s r)) later)
+
+entered-same : EnteredSame
 entered-same r s d c later same =
     same-both (same-runs δ later (c .flags) (intoBreak r d))
     (subst (λ (x : Device). Same x (map (shiftedBy δ) later) (intoBreak s c) (map (shiftedBy δ) later)) (sym (entered-twins r s d c same)) (settled δ later (intoBreak s c)))
@@ -78,14 +83,19 @@ entered-same r s d c later same =
     δ : ℕ
     δ = timeBetween s r
 
+-- What it is to have just entered Break, after a past.
+abbrev HasEntered : Type 0
+HasEntered = (m : Module) → deviceOf m ≡ intoBreak (readingOf (m .entry)) (afterAll freshDevice (m .past))
+
 -- A module that has just gone into Break has just entered it.
-pub has-entered : (m : Module) → deviceOf m ≡ intoBreak (readingOf (m .entry)) (afterAll freshDevice (m .past))
+pub has-entered : HasEntered
 has-entered m = step-entry lowSpeed rateOrder (m .entry) (afterAll freshDevice (m .past)) .same (m .entered)
 
-pub no-page-outlives-its-link : NoPageOutlivesItsLink
-no-page-outlives-its-link first second later same =
-    subst (λ (x : Device). Same x later (deviceOf second) later′) (sym (has-entered first))
-    (subst (λ (y : Device). Same (intoBreak r d) later y later′) (sym (has-entered second)) (entered-same r s d c later advertised))
+-- The two are the demand.
+by-entries : HasEntered → EnteredSame → NoPageOutlivesItsLink
+by-entries entered alike first second later same =
+    subst (λ (x : Device). Same x later (deviceOf second) later′) (sym (entered first))
+    (subst (λ (y : Device). Same (intoBreak r d) later y later′) (sym (entered second)) (alike r s d c later advertised))
   where
     r : ℕ
     r = readingOf (first .entry)
@@ -104,5 +114,8 @@ no-page-outlives-its-link first second later same =
 
     advertised : d .advertised ≡ c .advertised
     advertised =
-        sym (ap (λ (x : Device). x .advertised) (has-entered first)) ∙ same
-        ∙ ap (λ (x : Device). x .advertised) (has-entered second)
+        sym (ap (λ (x : Device). x .advertised) (entered first)) ∙ same
+        ∙ ap (λ (x : Device). x .advertised) (entered second)
+
+pub no-page-outlives-its-link : NoPageOutlivesItsLink
+no-page-outlives-its-link = by-entries has-entered entered-same

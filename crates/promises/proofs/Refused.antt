@@ -26,8 +26,8 @@ use Rattle.registers.specs.Registers.{registerOf, readDue, commanded, writeDue}
 use Rattle.timing.specs.OwnPages.{nonceFor, ownPage, echoingPage}
 use Rattle.hearing.specs.Edges.{beyondAckAndEcho, pageInAbility, pageInAck, pageIn, listened, edgeDue}
 use Rattle.timing.specs.Ticks.{mayOrder, orders, tickDue}
-use Rattle.closing.specs.Sending.{counted, sentDue}
-use Rattle.closing.specs.Reports.{reportDue}
+use Rattle.timing.specs.Sending.{counted, sentDue}
+use Rattle.timing.specs.Reports.{reportDue}
 use Rattle.device.specs.declared.events.Event.{Event}
 use Rattle.device.specs.declared.events.Event.the-variants.{Sent, Read, Write}
 use Rattle.device.specs.Steps.{stepOver, stepDue, saysTo, afterAll}

@@ -20,8 +20,8 @@ use Rattle.timing.specs.declared.profile.Profile.{Profile}
 use Rattle.timing.specs.OwnPages.{echoingPage}
 use Rattle.timing.specs.Timers.{runOut, inhibitOf}
 use Rattle.timing.specs.Ticks.{holdsBack, mayOrder, orders, tickIn, tickDue}
-use Rattle.closing.specs.Sending.{counted, sentIn, sentDue}
-use Rattle.closing.specs.Reports.{hasRate, reportIn, reportDue}
+use Rattle.timing.specs.Sending.{counted, sentIn, sentDue}
+use Rattle.timing.specs.Reports.{hasRate, reportIn, reportDue}
 use Rattle.promises.proofs.Twins.{talkIn, twin, Twins, Alike, twins-if, alike-if, twins-by, alike-by, kept, saying-same}
 use Rattle.promises.specs.TwoPasts.{shifted}
 

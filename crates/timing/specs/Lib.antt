@@ -1,3 +1,5 @@
 pub mod Timers
 pub mod OwnPages
 pub mod Ticks
+pub mod Sending
+pub mod Reports

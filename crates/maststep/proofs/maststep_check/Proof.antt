@@ -4,7 +4,10 @@ use Rattle.refusal.specs.Answers.{packed}
 use Rattle.maststep.proofs.maststep_check.Statement.{statement}
 use Rattle.maststep.proofs.maststep_check.Tie as tie
 
+returns : tie.Need-returns
+returns c = c .packed .ensures ∙ ap packed (c .before .check .ensures)
+
 pub maststep-check-spec : {M : Type 1} → statement M
 maststep-check-spec =
     tie.close
-    (tie.spec (λ c κs. search needs) (λ c κs. search needs) (λ c. c .packed .ensures ∙ ap packed (c .before .check .ensures)))
+    (tie.spec (λ c κs. search needs) (λ c κs. search needs) returns)

@@ -6,10 +6,14 @@ use Rattle.resolve.specs.Resolving.{resolveSays}
 use Rattle.maststep.proofs.maststep_resolve.Statement.{statement}
 use Rattle.maststep.proofs.maststep_resolve.Tie as tie
 
+returns : tie.Need-returns
+unfolding resolveSays
+returns c = c .packed .ensures ∙ ap (λ (a : Answer). packed (said a)) (c .before .resolve .ensures .0)
+
 pub maststep-resolve-spec : {M : Type 1} → statement M
 unfolding resolveSays
 maststep-resolve-spec =
     tie.close
     (tie.spec
     (λ c κs. search needs) (λ c κs. search needs)
-    (λ c. c .packed .ensures ∙ ap (λ (a : Answer). packed (said a)) (c .before .resolve .ensures .0)))
+    returns)

@@ -4,9 +4,12 @@ use Rattle.refusal.specs.Answers.{packed}
 use Rattle.maststep.proofs.maststep_write.Statement.{statement}
 use Rattle.maststep.proofs.maststep_write.Tie as tie
 
+returns : tie.Need-returns
+returns c = (c .packed .ensures ∙ ap packed (c .before .before .before .write .ensures .0), c .before .before .before .write .ensures .1)
+
 pub maststep-write-spec : {M : Type 1} → statement M
 maststep-write-spec =
     tie.close
     (tie.spec
     (λ c κs. search needs) (λ c κs. search needs) (λ c. search needs)
-    (λ c. (c .packed .ensures ∙ ap packed (c .before .before .before .write .ensures .0), c .before .before .before .write .ensures .1)))
+    returns)

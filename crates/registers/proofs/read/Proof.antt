@@ -5,6 +5,10 @@ use Rattle.registers.specs.Registers.{readDue}
 use Rattle.registers.proofs.read.Statement.{statement}
 use Rattle.registers.proofs.read.Tie as tie
 
+returns-8 : tie.Need-returns-8
+unfolding readDue
+returns-8 c = as-due (c .answered7 .ensures) (simp (sym (c .before .before .before .register-of .ensures) ∙ c .before .enum-told8 .given .1))
+
 pub read-spec : {M : Type 1} → statement M
 unfolding readDue
 read-spec =
@@ -18,5 +22,5 @@ read-spec =
     (λ c. as-due (c .answered4 .ensures) (simp (sym (c .before .before .before .register-of .ensures) ∙ c .before .enum-told5 .given .1)))
     (λ c. as-due (c .answered5 .ensures) (simp (sym (c .before .before .before .register-of .ensures) ∙ c .before .enum-told6 .given .1)))
     (λ c. as-due (c .answered6 .ensures) (simp (sym (c .before .before .before .register-of .ensures) ∙ c .before .enum-told7 .given .1)))
-    (λ c. as-due (c .answered7 .ensures) (simp (sym (c .before .before .before .register-of .ensures) ∙ c .before .enum-told8 .given .1)))
+    returns-8
     (λ c. as-due (c .answered8 .ensures) (simp (sym (c .before .before .before .register-of .ensures) ∙ c .before .enum-told9 .given .1))))

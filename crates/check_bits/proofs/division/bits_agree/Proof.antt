@@ -6,5 +6,8 @@ use Rattle.check_bits.proofs.Agreement.{agreement}
 use Rattle.check_bits.proofs.division.bits_agree.Statement.{statement}
 use Rattle.check_bits.proofs.division.bits_agree.Tie as tie
 
+returns : tie.Need-returns
+returns c = ap (λ (x : ℕ). eqb x 0) (c .register-after .ensures) ∙ agreement _
+
 pub bits-agree-spec : {M : Type 1} → statement M
-bits-agree-spec = tie.close (tie.spec (λ c κs. search needs) (λ c. ap (λ (x : ℕ). eqb x 0) (c .register-after .ensures) ∙ agreement _))
+bits-agree-spec = tie.close (tie.spec (λ c κs. search needs) returns)

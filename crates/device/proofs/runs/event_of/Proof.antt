@@ -4,6 +4,10 @@ use Rattle.device.specs.Runs.{eventOf}
 use Rattle.device.proofs.runs.event_of.Statement.{statement}
 use Rattle.device.proofs.runs.event_of.Tie as tie
 
+returns-4 : tie.Need-returns-4
+unfolding eventOf
+returns-4 c = simp (eq-eqb _ _ (c .if4 .taken), ne-eqb _ _ (c .before .if3 .left), ne-eqb _ _ (c .before .before .if2 .left), ne-eqb _ _ (c .before .before .before .if1 .left))
+
 pub event-of-spec : {M : Type 1} → statement M
 unfolding eventOf
 event-of-spec =
@@ -13,7 +17,7 @@ event-of-spec =
     (λ c. simp (eq-eqb _ _ (c .if1 .taken)))
     (λ c. simp (eq-eqb _ _ (c .if2 .taken), ne-eqb _ _ (c .before .if1 .left)))
     (λ c. simp (eq-eqb _ _ (c .if3 .taken), ne-eqb _ _ (c .before .if2 .left), ne-eqb _ _ (c .before .before .if1 .left)))
-    (λ c. simp (eq-eqb _ _ (c .if4 .taken), ne-eqb _ _ (c .before .if3 .left), ne-eqb _ _ (c .before .before .if2 .left), ne-eqb _ _ (c .before .before .before .if1 .left)))
+    returns-4
     (λ c. simp (eq-eqb _ _ (c .if5 .taken), ne-eqb _ _ (c .before .if4 .left), ne-eqb _ _ (c .before .before .if3 .left), ne-eqb _ _ (c .before .before .before .if2 .left), ne-eqb _ _ (c .before .before .before .before .if1 .left)))
     (λ c. search needs)
     (λ c. simp (eq-eqb _ _ (c .if6 .taken), ne-eqb _ _ (c .before .if5 .left), ne-eqb _ _ (c .before .before .if4 .left), ne-eqb _ _ (c .before .before .before .if3 .left), ne-eqb _ _ (c .before .before .before .before .if2 .left), ne-eqb _ _ (c .before .before .before .before .before .if1 .left)))

@@ -2,6 +2,12 @@ use borrow.Author.Needs.{needs}
 use Rattle.page.proofs.fields.get.Statement.{statement}
 use Rattle.page.proofs.fields.get.Tie as tie
 
+returns-8 : tie.Need-returns-8
+returns-8 c = simp (← c .part8 .ensures, c .before .enum-told8 .given .1)
+
+returns-9 : tie.Need-returns-9
+returns-9 c = simp (← c .part9 .ensures, c .before .enum-told9 .given .1)
+
 pub get-spec : {M : Type 1} → statement M
 get-spec =
     tie.close
@@ -14,5 +20,5 @@ get-spec =
     (λ c. simp (← c .part5 .ensures, c .before .enum-told5 .given .1))
     (λ c. simp (← c .part6 .ensures, c .before .enum-told6 .given .1))
     (λ c. simp (← c .part7 .ensures, c .before .enum-told7 .given .1))
-    (λ c. simp (← c .part8 .ensures, c .before .enum-told8 .given .1))
-    (λ c. simp (← c .part9 .ensures, c .before .enum-told9 .given .1)))
+    returns-8
+    returns-9)

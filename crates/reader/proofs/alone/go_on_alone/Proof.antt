@@ -6,6 +6,10 @@ use Rattle.reader.proofs.PatternLaws.{counted-small}
 use Rattle.reader.proofs.alone.go_on_alone.Statement.{statement}
 use Rattle.reader.proofs.alone.go_on_alone.Tie as tie
 
+returns-2 : tie.Need-returns-2
+unfolding goesOn
+returns-2 c = rw (sym (c .before .before .before .judgement .ensures ∙ ap (judgementOf _) (c .before .before .before .before .time-between .ensures)) ∙ c .before .enum-told .given .1) (c .opened .ensures)
+
 pub go-on-alone-spec : {M : Type 1} → statement M
 unfolding goesOn
 go-on-alone-spec =
@@ -20,5 +24,5 @@ go-on-alone-spec =
     (λ c. search needs)
     (λ c κs. search needs)
     (λ c. rw (sym (c .before .before .before .before .judgement .ensures ∙ ap (judgementOf _) (c .before .before .before .before .before .time-between .ensures)) ∙ c .before .before .k .given .1) (c .step-on-alone .ensures))
-    (λ c. rw (sym (c .before .before .before .judgement .ensures ∙ ap (judgementOf _) (c .before .before .before .before .time-between .ensures)) ∙ c .before .enum-told .given .1) (c .opened .ensures))
+    returns-2
     (λ c. rw (sym (c .before .before .before .judgement .ensures ∙ ap (judgementOf _) (c .before .before .before .before .time-between .ensures)) ∙ c .before .enum-told2 .given .1) (c .dropped .ensures)))

@@ -5,9 +5,13 @@ use Rattle.resolve.specs.Resolving.{resolveSays}
 use Rattle.resolve.proofs.resolving.resolve.Statement.{statement}
 use Rattle.resolve.proofs.resolving.resolve.Tie as tie
 
+returns : tie.Need-returns
+unfolding resolveSays
+returns c = (c .resolve-by .ensures, ap said (c .resolve-by .ensures))
+
 pub resolve-spec : {M : Type 1} → statement M
 unfolding resolveSays
 resolve-spec =
     tie.close
     (tie.spec
-    (λ c. search needs) (λ c κs. search needs) (λ c. (c .resolve-by .ensures, ap said (c .resolve-by .ensures))))
+    (λ c. search needs) (λ c κs. search needs) returns)

@@ -3,6 +3,10 @@ use Rattle.resolve.specs.Roles.{roleOf}
 use Rattle.resolve.proofs.roles.own_role.Statement.{statement}
 use Rattle.resolve.proofs.roles.own_role.Tie as tie
 
+returns-4 : tie.Need-returns-4
+unfolding roleOf
+returns-4 c = simp (c .master-if3 .ensures, ← c .before .get2 .ensures, ← c .before .before .get .ensures, c .before .before .before .if3 .left, ← c .before .before .before .before .is-forced3 .ensures, c .before .before .before .before .before .if1 .left, ← c .before .before .before .before .before .before .is-forced .ensures)
+
 pub own-role-spec : {M : Type 1} → statement M
 unfolding roleOf
 own-role-spec =
@@ -15,4 +19,4 @@ own-role-spec =
     (λ c κs. search needs) (λ c κs. search needs) (λ c κs. search needs)
     (λ c. simp (c .master-if2 .ensures, ← c .before .has-t44 .ensures, c .before .before .if3 .taken, ← c .before .before .before .is-forced3 .ensures, c .before .before .before .before .if1 .left, ← c .before .before .before .before .before .is-forced .ensures))
     (λ c κs. search needs) (λ c κs. search needs) (λ c κs. search needs)
-    (λ c. simp (c .master-if3 .ensures, ← c .before .get2 .ensures, ← c .before .before .get .ensures, c .before .before .before .if3 .left, ← c .before .before .before .before .is-forced3 .ensures, c .before .before .before .before .before .if1 .left, ← c .before .before .before .before .before .before .is-forced .ensures)))
+    returns-4)
