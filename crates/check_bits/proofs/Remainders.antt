@@ -1,7 +1,7 @@
 -- The long division of specs/CheckBits is a division: message times x^16 less the remainder is a multiple of the divisor,
 -- and no other sixteen coefficients make it one. And the remainder of a message with one bit more, from that of the message.
 use mathlib.Core.Path.{_≡_, refl, sym, ap, ap₂, _∙_}
-use mathlib.Core.Bool.{Bool, true, false, xor}
+use mathlib.Core.Bool.{Bool, true, false}
 use mathlib.Core.List.{List, [], _∷_, _++_, append-assoc}
 use Prim.Native.Nat.{ℕ, zero, suc, _+_, _≤_}
 use native.Mathlib.Nat.{zero-add, suc-add}

@@ -10,7 +10,7 @@ use lib.Count.{ones, ones-step, ones-cat, ones-le}
 use lib.ListN.{length, take, getD, length-append}
 use lib.Pow.{pow-pos, mod-pow-add, shr-lt}
 use lib.Seq.{take-suc, take-all}
-use Rattle.page.specs.Word.{odd, bitsOf}
+use Rattle.page.specs.Word.{bitsOf}
 use Rattle.check_bits.specs.CheckBits.{checkBits, checkList}
 use Rattle.check_bits.proofs.BinaryNumbers.{bit, odd-bit, digitsOf, trues, trues-append}
 use Rattle.check_bits.proofs.CheckTheorem.{checkList-digits, check-below}

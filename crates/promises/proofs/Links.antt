@@ -18,12 +18,12 @@ use Rattle.timing.specs.Ticks.{mayOrder, orders, tickDue}
 use Rattle.timing.specs.Sending.{counted, sentDue}
 use Rattle.timing.specs.Reports.{reportDue}
 use Rattle.device.specs.Steps.{stepOver, saysTo, afterAll}
-use Rattle.promises.specs.FirstLink.{spoken, FirstLink}
+use Rattle.promises.specs.FirstLink.{FirstLink}
 use Rattle.promises.specs.TwoPasts.{without6And4}
 use Rattle.promises.specs.WorkedPasts.{WorkedPasts}
 
 pub first-link : FirstLink
-unfolding spoken afterAll saysTo stepOver tickDue writeDue readDue sentDue reportDue registerOf commanded statusBits ownPage echoingPage nonceFor wordOf beyondAckAndEcho part withPart edgeDue listened edgeOf goesOn dropsOn judgementOf asks always byBit arrives isClock agrees checkBits checkList remainder xor readings transitions positionsTo hasTransition sentBits pageIn pageInAbility pageInAck mayOrder orders counted resolutionOf hasAbility roleOf
+unfolding afterAll saysTo stepOver tickDue writeDue readDue sentDue reportDue registerOf commanded statusBits ownPage echoingPage nonceFor wordOf beyondAckAndEcho part withPart edgeDue listened edgeOf goesOn dropsOn judgementOf asks always byBit arrives isClock agrees checkBits checkList remainder xor readings transitions positionsTo hasTransition sentBits pageIn pageInAbility pageInAck mayOrder orders counted resolutionOf hasAbility roleOf
 first-link =
     record { off = refl; break = refl; ability = refl; ack = refl; complete = refl; check-link = refl; outcome = refl; up = refl; says = refl }
 

@@ -4,7 +4,7 @@ use mathlib.Core.Path.{_≡_, refl, sym, ap, ap₂, _∙_, subst}
 use mathlib.Core.Bool.{Bool, true, false, cond, _&&_, false≢true}
 use mathlib.Core.List.{List, [], _∷_, _++_, append-assoc, Forall₂, Forall₂·nil, Forall₂·cons, Forall₂·eq-nil-left}
 use native.Mathlib.Omega.{arith}
-use lib.Dec.{leb, ltb, eqb}
+use lib.Dec.{leb, ltb}
 use lib.ListN.{length, drop}
 use borrow.Author.Tests.{leb-true, le-leb, lt-ltb}
 use Rattle.refusal.specs.Answers.{Said, nothing, refused, pageRead, number}
@@ -23,10 +23,9 @@ use Rattle.line.specs.Transitions.{transitions, sentBits, readings, edgeCount}
 use Rattle.line.specs.Writing.{saysIn, writeSays}
 use Rattle.reader.specs.declared.reader.Reader.{Reader}
 use Rattle.reader.specs.declared.reader.Reader.the-variants.{Fresh, Open, Dropping}
-use Rattle.reader.specs.Reading.{Brings, bring, dropsOn, goesOn, edgeOf}
+use Rattle.reader.specs.Reading.{Brings, bring, dropsOn, goesOn, edgeOf, saidAlong, readerAfter}
 use Rattle.reading.specs.Captures.{Attempt, ends, isOpen, readIn, readBy, readOf}
-use Rattle.reading.proofs.EdgeRuns.{gapsAfter, gaps, edgeGaps, saidAlong, Sends, WasSent, Begins}
-use Rattle.reading.proofs.EdgeRuns as runs
+use Rattle.reading.proofs.EdgeRuns.{gapsAfter, gaps, edgeGaps, Sends, WasSent, Begins}
 use Rattle.reading.proofs.OnlyPages as only
 use Rattle.reading.proofs.SentGaps.{afterClock, transitions-listed}
 use Rattle.reading.proofs.SinceOpened.{startsAt, SaidPage}
@@ -35,26 +34,11 @@ use Rattle.reading.proofs.ReadCalls as calls
 use Rattle.reading.proofs.WriteThenRead.{written-sends, write-then-read}
 use Rattle.reading.proofs.Walk as walk
 use Rattle.listing_text.specs.Listing.{attemptsFrom}
-use Rattle.promises.specs.FirstLink.{spoken}
-use Rattle.promises.specs.ReadingBack.{fitsBehind, fits, Carries, saysAlong, readerAfter, atTheLast, opensAfter, EndsWith, BeginsWith, atTheEnd, ReadingBack}
-
--- The two ways to walk along edges are one.
-same-says : (m : LineMode) (r : Reader) (edges : List ℕ) → saysAlong m r edges ≡ saidAlong m r edges
-same-says m r [] = refl
-same-says m r (x ∷ rest) = ap (λ (l : List Said). edgeOf m r x .says ∷ l) (same-says m (edgeOf m r x .reader) rest)
-
-same-reader : (m : LineMode) (r : Reader) (edges : List ℕ) → readerAfter m r edges ≡ runs.readerAfter m r edges
-same-reader m r [] = refl
-same-reader m r (x ∷ rest) = same-reader m (edgeOf m r x .reader) rest
+use Rattle.promises.specs.ReadingBack.{fitsBehind, fits, Carries, atTheLast, opensAfter, EndsWith, BeginsWith, ReadingBack}
 
 after-append : (m : LineMode) (r : Reader) (past : List ℕ) (x : ℕ) → readerAfter m r (past ++ (x ∷ [])) ≡ edgeOf m (readerAfter m r past) x .reader
 after-append m r [] x = refl
 after-append m r (y ∷ past) x = after-append m (edgeOf m r y .reader) past x
-
-same-spoken : (l : List Said) → spoken l ≡ walk.spoken l
-unfolding spoken
-same-spoken [] = refl
-same-spoken (s ∷ rest) = ap (λ (l : List Said). cond (eqb (s .kind) 0) l (s ∷ l)) (same-spoken rest)
 
 -- Edges in the windows: a test here, a relation there.
 within-near : (m : LineMode) (k gap : ℕ) → within m k gap ≡ true → Near m k gap
@@ -149,10 +133,9 @@ opens-after m r y x [] = by (edgeOf m r y .reader) (last-at m r y)
     by s dropped = refl
 opens-after m r y x (z ∷ before) = opens-after m (edgeOf m r y .reader) z x before
 
-starts-opens : (m : LineMode) (before : List ℕ) (x : ℕ) → startsAt m (runs.readerAfter m Fresh before) x ≡ true → opensAfter m before x ≡ true
+starts-opens : (m : LineMode) (before : List ℕ) (x : ℕ) → startsAt m (readerAfter m Fresh before) x ≡ true → opensAfter m before x ≡ true
 starts-opens m [] x h = refl
-starts-opens m (y ∷ before) x h =
-    sym (opens-after m Fresh y x before) ∙ ap (λ (r : Reader). startsAt m r x) (same-reader m Fresh (y ∷ before)) ∙ h
+starts-opens m (y ∷ before) x h = sym (opens-after m Fresh y x before) ∙ h
 
 -- The calls by a mode's number are those in the mode that it names.
 read-known : (mode : ℕ) (m : LineMode) (capture : List ℕ) (place : ℕ) → modeOf mode ≡ Known m → readOf mode capture place ≡ readIn m capture place
@@ -175,25 +158,19 @@ same-calls mode m capture known (suc more) place =
     ∙ ap (λ (a : Attempt). cond (ltb place (length capture)) (a .says ∷ walk.attemptsBy (readIn m capture) (length capture) more (a .next)) [])
     (read-known mode m capture place known)
 
-same-told : (m : LineMode) (edges : List ℕ) → walk.toldBy m Fresh edges ≡ spoken (saysAlong m Fresh edges) ++ atTheEnd (readerAfter m Fresh edges)
-same-told m edges =
-    ap₂ (λ (l : List Said) (r : Reader). l ++ atTheEnd r)
-    (ap walk.spoken (sym (same-says m Fresh edges)) ∙ sym (same-spoken (saysAlong m Fresh edges)))
-    (sym (same-reader m Fresh edges))
-
 -- Over any numbers whose windows lie apart, four spacings being less than the clock's round, and any number that names them.
 pub reading-back : (mode : ℕ) (m : LineMode) → modeOf mode ≡ Known m → Apart m → 4 * m .spacing < 2 ^ 32 → ReadingBack mode m
 reading-back mode m known apart clock =
     record {
       nominal = λ w first. sends-carries m w (readings m w first) (written-sends m first clock w);
-      fresh = λ w edges word carried. same-says m Fresh edges ∙ back .fresh w edges word (carries-sends m w edges carried) .said;
+      fresh = λ w edges word carried. back .fresh w edges word (carries-sends m w edges carried) .said;
       after-quiet = λ past last x w edges q word carried.
           after (readerAfter m Fresh (past ++ (last ∷ []))) x w edges
           (quiet-opens m apart (readerAfter m Fresh (past ++ (last ∷ []))) last x
           (subst (LastAt last) (sym (after-append m Fresh past last)) (last-at m (readerAfter m Fresh past) last)) q) word carried;
       one-word = λ v w edges first second a b. back .one-word v w edges first second (carries-sends m v edges a) (carries-sends m w edges b);
       nothing-else = λ past x w h.
-          since past x w (back .any-past w x past (ap (λ (r : Reader). edgeOf m r x .says) (sym (same-reader m Fresh past)) ∙ h));
+          since past x w (back .any-past w x past h);
       read = λ capture place w b.
           ap (λ (a : Attempt). a .says)
           (read-known mode m capture place known
@@ -208,18 +185,18 @@ reading-back mode m known apart clock =
           let s = walk.walk-step m capture place inside in
           subst (λ (a : Attempt). (place < a .next) × (a .next ≤ length capture)) (sym (read-known mode m capture place known)) (s .forward, s .inside);
       each-once = λ capture place more enough.
-          same-calls mode m capture known more place ∙ walk.attempts-told m capture more place enough ∙ same-told m (drop place capture);
+          same-calls mode m capture known more place ∙ walk.attempts-told m capture more place enough;
     }
   where
     back : ReadsBack m
     back = reads-back m apart
 
     after : (r : Reader) (x w : ℕ) (edges : List ℕ) → edgeOf m r x ≡ bring (cond (isOpen r) (refused 2) nothing) (Open 1 x 0) → w < 2 ^ 48 → Carries m w (x ∷ edges)
-        → saysAlong m r (x ∷ edges) ≡ cond (isOpen r) (refused 2) nothing ∷ atTheLast edges (pageRead w)
+        → saidAlong m r (x ∷ edges) ≡ cond (isOpen r) (refused 2) nothing ∷ atTheLast edges (pageRead w)
     after r x w edges e word carried =
-        ap (λ (b : Brings). b .says ∷ saysAlong m (b .reader) edges) e
+        ap (λ (b : Brings). b .says ∷ saidAlong m (b .reader) edges) e
         ∙ ap (λ (l : List Said). cond (isOpen r) (refused 2) nothing ∷ l)
-        (same-says m (Open 1 x 0) edges ∙ back .opened w x edges word (carries-sends m w (x ∷ edges) carried) .said)
+        (back .opened w x edges word (carries-sends m w (x ∷ edges) carried) .said)
 
     since : (past : List ℕ) (x w : ℕ) → SaidPage m past x w → EndsWith m w (past ++ (x ∷ []))
     since past x w s =

@@ -33,7 +33,7 @@ use Rattle.device.specs.declared.events.Event.the-variants.{Sent, Read, Write}
 use Rattle.device.specs.Steps.{stepOver, stepDue, saysTo, afterAll}
 use Rattle.device.specs.Runs.{eventOf, eventsOf, runSays, runLeaves}
 use Rattle.listing_text.specs.Listing.{refusedLine, listing}
-use Rattle.promises.specs.FirstLink.{pageFrom, spoken, toAbility, toAck}
+use Rattle.promises.specs.FirstLink.{pageFrom, toAbility, toAck}
 use Rattle.promises.specs.Refusals.{Kept, EachRefusal}
 
 -- An event that is refused and changes nothing, whatever has come before.
@@ -77,7 +77,7 @@ stays =
     refl refl refl refl (talk-after ∙ sym talk-before) refl refl
 
 pub each-refusal : EachRefusal
-unfolding spoken afterAll saysTo stepOver tickDue writeDue sentDue reportDue registerOf commanded ownPage echoingPage nonceFor wordOf beyondAckAndEcho part withPart edgeDue listened edgeOf goesOn dropsOn judgementOf asks always byBit arrives isClock agrees checkBits checkList remainder xor readings transitions positionsTo hasTransition sentBits pageIn pageInAbility pageInAck mayOrder orders counted resolutionOf hasAbility roleOf writeSays writeLeaves saysIn leavesIn edgeCount modeOf readOf readIn runSays runLeaves eventsOf eventOf listing refusedLine
+unfolding afterAll saysTo stepOver tickDue writeDue sentDue reportDue registerOf commanded ownPage echoingPage nonceFor wordOf beyondAckAndEcho part withPart edgeDue listened edgeOf goesOn dropsOn judgementOf asks always byBit arrives isClock agrees checkBits checkList remainder xor readings transitions positionsTo hasTransition sentBits pageIn pageInAbility pageInAck mayOrder orders counted resolutionOf hasAbility roleOf writeSays writeLeaves saysIn leavesIn edgeCount modeOf readOf readIn runSays runLeaves eventsOf eventOf listing refusedLine
 each-refusal =
     record {
       gap = record { run = record { said = refl; left = refl }; left = refl };

@@ -1,13 +1,15 @@
 -- P1-P14, from the examples that the crates compute.
-use mathlib.Core.Path.{refl}
+use mathlib.Core.Path.{ap}
 use Rattle.check_bits.proofs.CheckTheorem.{check-examples}
 use Rattle.line.proofs.LineExamples.{line-table}
 use Rattle.resolve.proofs.ResolveExamples.{resolve-table}
-use Rattle.registers.specs.Registers.{registerOf, statusBits, readDue}
+use Rattle.state.specs.Memory.{Due}
+use Rattle.device.specs.Steps.{stepOver}
+use Rattle.device.proofs.DeviceExamples as device-examples
 use Rattle.promises.specs.Table.{Table}
 
 pub table : Table
-unfolding readDue registerOf statusBits
+unfolding stepOver
 table =
     record {
       p1 = check-examples .p1;
@@ -23,5 +25,5 @@ table =
       p11 = resolve-table .p11;
       p12 = resolve-table .p12;
       p13 = resolve-table .p13;
-      p14 = refl;
+      p14 = ap (λ (x : Due). x .says) device-examples.p14;
     }

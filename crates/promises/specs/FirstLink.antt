@@ -2,11 +2,10 @@
 -- somewhere, and is one of the two pasts in WorkedPasts.
 use Prim.Native.Nat.{ℕ, _^_}
 use mathlib.Core.Path.{_≡_}
-use mathlib.Core.Bool.{true, false, cond}
+use mathlib.Core.Bool.{true, false}
 use mathlib.Core.List.{List, [], _∷_, _++_, map}
-use lib.Dec.{eqb}
 use Rattle.refusal.specs.declared.Answer.the-variants.{Settled}
-use Rattle.refusal.specs.Answers.{Said, pageRead, pageOrdered, settledOn, registerValue}
+use Rattle.refusal.specs.Answers.{spoken, pageRead, pageOrdered, settledOn, registerValue}
 use Rattle.gap.specs.Modes.{lsmMode}
 use Rattle.line.specs.Transitions.{readings}
 use Rattle.state.specs.declared.State.{State}
@@ -49,11 +48,6 @@ toUp = toCheckLink ++ (Report 9500000 true ∷ [])
 
 abbrev pub reads : List Event
 reads = Read 9500001 513 ∷ Read 9500002 513 ∷ Read 9500003 517 ∷ Read 9500004 518 ∷ []
-
--- The answers that say something.
-unfoldable pub spoken : List Said → List Said
-spoken [] = []
-spoken (s ∷ rest) = let more = spoken rest in cond (eqb (s .kind) 0) more (s ∷ more)
 
 abbrev pub stateAfter : List Event → State
 stateAfter events = afterAll freshDevice events .state

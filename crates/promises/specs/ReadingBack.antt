@@ -6,18 +6,16 @@ use mathlib.Core.Bool.{Bool, true, false, cond, _&&_}
 use mathlib.Core.List.{List, [], _∷_, _++_}
 use lib.Dec.{leb}
 use lib.ListN.{length, replicate, drop}
-use Rattle.refusal.specs.Answers.{Said, nothing, refused, pageRead, number}
+use Rattle.refusal.specs.Answers.{Said, nothing, refused, pageRead, number, spoken}
 use Rattle.gap.specs.declared.modes.LineMode.{LineMode}
 use Rattle.gap.specs.Clock.{timeBetween}
 use Rattle.gap.specs.Gaps.{within}
 use Rattle.line.specs.Transitions.{transitions, readings, edgeCount}
 use Rattle.line.specs.Writing.{writeSays, writeLeaves}
-use Rattle.reader.specs.declared.reader.Reader.{Reader}
 use Rattle.reader.specs.declared.reader.Reader.the-variants.{Fresh}
-use Rattle.reader.specs.Reading.{edgeOf}
-use Rattle.reading.specs.Captures.{isOpen, readOf}
+use Rattle.reader.specs.Reading.{edgeOf, saidAlong, readerAfter}
+use Rattle.reading.specs.Captures.{isOpen, atTheEnd, readOf}
 use Rattle.listing_text.specs.Listing.{attemptsFrom}
-use Rattle.promises.specs.FirstLink.{spoken}
 
 -- Edges in the windows of transitions: one edge for each, and between neighbours, k positions apart, a gap that "lies within k·spacing ± tolerance,
 -- ends included". The first edge may stand at any reading. Here the edges after one at x, which stands for position p,
@@ -36,16 +34,6 @@ fits m (p ∷ rest) (x ∷ later) = fitsBehind m p x rest later
 -- Edges that carry a word: they are in the windows of its page.
 abbrev pub Carries : LineMode → ℕ → List ℕ → Type 0
 Carries m w edges = fits m (transitions (m .slow) w) edges ≡ true
-
--- "Reading goes edge by edge." What a reader says at each edge,
-abbrev pub saysAlong : LineMode → Reader → List ℕ → List Said
-saysAlong m r [] = []
-saysAlong m r (x ∷ rest) = edgeOf m r x .says ∷ saysAlong m (edgeOf m r x .reader) rest
-
--- and the reader after all of them.
-abbrev pub readerAfter : LineMode → Reader → List ℕ → Reader
-readerAfter m r [] = r
-readerAfter m r (x ∷ rest) = readerAfter m (edgeOf m r x .reader) rest
 
 -- Nothing at each edge until the last, and there this.
 abbrev pub atTheLast : List ℕ → Said → List Said
@@ -75,20 +63,16 @@ pub record BeginsWith (m : LineMode) (w : ℕ) (edges : List ℕ) : Type 0 where
   pub word : w < 2 ^ 48
   pub carried : Carries m w page
 
--- "the end of the capture counting as quiet": a Cut, if an attempt is open there.
-abbrev pub atTheEnd : Reader → List Said
-atTheEnd r = cond (isOpen r) (refused 2 ∷ []) []
-
 -- What holds of a mode's number and the mode that it names.
 pub record ReadingBack (mode : ℕ) (m : LineMode) : Type 0 where
   -- A page at nominal spacing lies within the windows, from any first reading on.
   pub nominal : (w first : ℕ) → Carries m w (readings m w first)
   -- Every word's page, each gap in its window, is read by a fresh reader: nothing is said until its last edge, and there the word.
-  pub fresh : (w : ℕ) (edges : List ℕ) → w < 2 ^ 48 → Carries m w edges → saysAlong m Fresh edges ≡ atTheLast edges (pageRead w)
+  pub fresh : (w : ℕ) (edges : List ℕ) → w < 2 ^ 48 → Carries m w edges → saidAlong m Fresh edges ≡ atTheLast edges (pageRead w)
   -- So it is after any other edges, if quiet lies between. "A quiet gap in an attempt ends it (Cut), and that edge opens the next"; with no attempt open,
   -- edges are dropped "until one follows a quiet gap; it opens an attempt".
   pub after-quiet : (past : List ℕ) (last x w : ℕ) (edges : List ℕ) → m .quiet ≤ timeBetween x last → w < 2 ^ 48 → Carries m w (x ∷ edges)
-      → saysAlong m (readerAfter m Fresh (past ++ (last ∷ []))) (x ∷ edges)
+      → saidAlong m (readerAfter m Fresh (past ++ (last ∷ []))) (x ∷ edges)
       ≡ cond (isOpen (readerAfter m Fresh (past ++ (last ∷ [])))) (refused 2) nothing ∷ atTheLast edges (pageRead w)
   -- No edges carry two words.
   pub one-word : (v w : ℕ) (edges : List ℕ) → v < 2 ^ 48 → w < 2 ^ 48 → Carries m v edges → Carries m w edges → v ≡ w
@@ -109,4 +93,4 @@ pub record ReadingBack (mode : ℕ) (m : LineMode) : Type 0 where
   -- tells them edge by edge.
   pub each-once : (capture : List ℕ) (place more : ℕ) → length capture - place ≤ more
       → attemptsFrom more mode capture place
-      ≡ spoken (saysAlong m Fresh (drop place capture)) ++ atTheEnd (readerAfter m Fresh (drop place capture))
+      ≡ spoken (saidAlong m Fresh (drop place capture)) ++ atTheEnd (readerAfter m Fresh (drop place capture))

@@ -4,7 +4,7 @@ use mathlib.Core.Path.{_≡_}
 use mathlib.Core.Bool.{true, false}
 use mathlib.Core.List.{List, [], _∷_, _++_, map}
 use lib.ListN.{replicate}
-use Rattle.refusal.specs.Answers.{Said, refused, pageRead, pageOrdered}
+use Rattle.refusal.specs.Answers.{Said, refused, pageRead, pageOrdered, spoken}
 use Rattle.page.specs.Word.{bitsOf}
 use Rattle.gap.specs.Modes.{lsmMode}
 use Rattle.line.specs.Transitions.{hasTransition, positionsTo, readingAt}
@@ -20,7 +20,7 @@ use Rattle.device.specs.declared.events.Event.the-variants.{Edge, Tick, Sent, R
 use Rattle.device.specs.Steps.{stepDue, saysTo, afterAll}
 use Rattle.device.specs.Runs.{runSays, runLeaves}
 use Rattle.listing_text.specs.Listing.{refusedLine, listing}
-use Rattle.promises.specs.FirstLink.{pageFrom, toBreak, toAbility, toAck, threeSent, spoken, stateAfter}
+use Rattle.promises.specs.FirstLink.{pageFrom, toBreak, toAbility, toAck, threeSent, stateAfter}
 
 -- Events from a fresh device on: all that is said on the way, and the state that is left.
 pub record Run (events : List Event) (says : List Said) (state : State) : Type 0 where

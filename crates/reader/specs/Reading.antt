@@ -2,6 +2,7 @@
 use Prim.Native.Nat.{ℕ, _+_, _/_, _%_, _^_}
 use mathlib.Core.Path.{_≡_}
 use mathlib.Core.Bool.{Bool, cond}
+use mathlib.Core.List.{List, [], _∷_}
 use lib.Dec.{eqb}
 use Rattle.refusal.specs.Answers.{Said, said, nothing, refused, pageRead}
 use Rattle.check_bits.specs.CheckBits.{agrees}
@@ -59,3 +60,13 @@ unfoldable pub edgeOf : LineMode → Reader → ℕ → Brings
 edgeOf m Fresh reading = bring nothing (Open 1 reading 0)
 edgeOf m (Open at last bits) reading = goesOn (m .slow) at bits reading (judgementOf m (timeBetween reading last))
 edgeOf m (Dropping last) reading = dropsOn reading (judgementOf m (timeBetween reading last))
+
+-- "Reading goes edge by edge." What a reader says at each edge of a list,
+abbrev pub saidAlong : LineMode → Reader → List ℕ → List Said
+saidAlong m r [] = []
+saidAlong m r (x ∷ rest) = edgeOf m r x .says ∷ saidAlong m (edgeOf m r x .reader) rest
+
+-- and the reader after all of them.
+abbrev pub readerAfter : LineMode → Reader → List ℕ → Reader
+readerAfter m r [] = r
+readerAfter m r (x ∷ rest) = readerAfter m (edgeOf m r x .reader) rest

@@ -10,7 +10,7 @@ use Rattle.reader.specs.declared.reader.Reader.{Reader}
 use Rattle.gap.specs.Clock.{timeBetween}
 use Rattle.gap.specs.Gaps.{judgementOf}
 use Rattle.line.specs.Transitions.{transitions}
-use Rattle.reader.specs.Reading.{edgeOf}
+use Rattle.reader.specs.Reading.{saidAlong, readerAfter}
 use Rattle.gap.proofs.Windows.{Near}
 
 -- The gaps of a list: of each entry and the one before it.
@@ -32,16 +32,6 @@ edgeGaps edges = gaps timeBetween edges
 -- Edges of which each gap lies in the window of the page's gap there, with one edge for each transition.
 abbrev pub Sends : LineMode → ℕ → List ℕ → Type 0
 Sends m w edges = Forall₂ (Near m) (pageGaps m w) (edgeGaps edges)
-
--- What a reader says at each edge of a list, one after the other,
-abbrev pub saidAlong : LineMode → Reader → List ℕ → List Said
-saidAlong m r [] = []
-saidAlong m r (x ∷ rest) = edgeOf m r x .says ∷ saidAlong m (edgeOf m r x .reader) rest
-
--- and the reader after them.
-abbrev pub readerAfter : LineMode → Reader → List ℕ → Reader
-readerAfter m r [] = r
-readerAfter m r (x ∷ rest) = readerAfter m (edgeOf m r x .reader) rest
 
 -- Nothing n times, and then this.
 abbrev pub onlyLast : ℕ → Said → List Said

@@ -22,9 +22,9 @@ use Rattle.gap.specs.Clock.{timeBetween}
 use Rattle.gap.specs.Gaps.{judgementOf}
 use Rattle.line.specs.Transitions.{sentBits}
 use Rattle.reader.specs.Pattern.{asks}
-use Rattle.reader.specs.Reading.{Brings, bring, withBit, arrives, goesOn, edgeOf}
+use Rattle.reader.specs.Reading.{Brings, bring, withBit, arrives, goesOn, edgeOf, saidAlong}
 use Rattle.reading.proofs.JudgedGaps.{judged-counted, all-near}
-use Rattle.reading.proofs.EdgeRuns.{gapsAfter, saidAlong, onlyLast, pageGaps, WasSent}
+use Rattle.reading.proofs.EdgeRuns.{gapsAfter, onlyLast, pageGaps, WasSent}
 use Rattle.reading.proofs.GapMachine.{passes, bitsAfter, pass, gapsOf, page-bits, only-pages}
 use Rattle.reading.proofs.SentGaps.{transition-gaps}
 use Rattle.reading.proofs.ReadBits.{pushed-all, agreeing}

@@ -18,11 +18,11 @@ use Rattle.gap.specs.Clock.{timeBetween}
 use Rattle.gap.specs.Gaps.{judgementOf}
 use Rattle.line.specs.Transitions.{sentBits, transitions, edgeCount}
 use Rattle.reader.specs.Pattern.{asks}
-use Rattle.reader.specs.Reading.{Brings, bring, withBit, arrives, goesOn, dropsOn, edgeOf}
+use Rattle.reader.specs.Reading.{Brings, bring, withBit, arrives, goesOn, dropsOn, edgeOf, saidAlong, readerAfter}
 use Rattle.gap.proofs.Windows.{Apart, Near, counts-quiet}
 use Rattle.line.proofs.SentBits.{sent-length}
 use Rattle.reading.proofs.JudgedGaps.{all-judged}
-use Rattle.reading.proofs.EdgeRuns.{gapsAfter, gaps, edgeGaps, saidAlong, readerAfter, onlyLast, lastOf, pageGaps, Sends, AnswersLast}
+use Rattle.reading.proofs.EdgeRuns.{gapsAfter, gaps, edgeGaps, onlyLast, lastOf, pageGaps, Sends, AnswersLast}
 use Rattle.reading.proofs.GapMachine.{passes, bitsAfter, Passed, passed, none-past, gapsOf, page-passes, page-bits}
 use Rattle.reading.proofs.SentGaps.{transition-gaps}
 use Rattle.reading.proofs.ReadBits.{pushed-all, sent-agrees, sent-word}

@@ -16,9 +16,9 @@ use Rattle.reader.specs.declared.reader.Reader.{Reader}
 use Rattle.reader.specs.declared.reader.Reader.the-variants.{Fresh, Open, Dropping}
 use Rattle.gap.specs.Clock.{timeBetween}
 use Rattle.gap.specs.Gaps.{judgementOf}
-use Rattle.reader.specs.Reading.{Brings, dropsOn, edgeOf}
+use Rattle.reader.specs.Reading.{Brings, dropsOn, edgeOf, saidAlong, readerAfter}
 use Rattle.reading.specs.Captures.{Attempt, ends, isOpen, opensAt, attemptOf}
-use Rattle.reading.proofs.EdgeRuns.{saidAlong, readerAfter, onlyLast, AnswersLast, Begins, WasSent}
+use Rattle.reading.proofs.EdgeRuns.{onlyLast, AnswersLast, Begins, WasSent}
 use Rattle.reading.proofs.OnlyPages.{Edge, cut, wrong, passing, ending, edge-cases, only-sent}
 
 -- Edges that are answered nothing until the last, and then something: that is the capture's answer, whatever edges follow.

@@ -12,10 +12,10 @@ use Rattle.gap.specs.Clock.{timeBetween}
 use Rattle.gap.specs.Modes.{hsmMode, lsmMode}
 use Rattle.line.specs.Transitions.{readingAt, readings, edgeCount}
 use Rattle.line.specs.Writing.{placed}
-use Rattle.reader.specs.Reading.{bring, edgeOf}
+use Rattle.reader.specs.Reading.{bring, edgeOf, saidAlong, readerAfter}
 use Rattle.reading.specs.Captures.{ends, opensAt, attemptOf, readIn}
 use Rattle.gap.proofs.Windows.{Apart, hsm-apart, lsm-apart}
-use Rattle.reading.proofs.EdgeRuns.{saidAlong, readerAfter, onlyLast, lastOf, Sends, AnswersLast, Begins, WasSent}
+use Rattle.reading.proofs.EdgeRuns.{onlyLast, lastOf, Sends, AnswersLast, Begins, WasSent}
 use Rattle.reading.proofs.ReadBack.{as-many, opened-reads, fresh-reads, dropping-reads, open-opens}
 use Rattle.reading.proofs.OnlyPages.{only-sent}
 use Rattle.reading.proofs.ReadCaptures.{page-answer, answered-sent}

@@ -15,9 +15,9 @@ use Rattle.reader.specs.declared.reader.Reader.{Reader}
 use Rattle.reader.specs.declared.reader.Reader.the-variants.{Fresh, Open, Dropping}
 use Rattle.gap.specs.Clock.{timeBetween}
 use Rattle.gap.specs.Gaps.{judgementOf}
-use Rattle.reader.specs.Reading.{Brings, dropsOn, edgeOf}
+use Rattle.reader.specs.Reading.{Brings, dropsOn, edgeOf, saidAlong, readerAfter}
 use Rattle.reading.specs.Captures.{isOpen}
-use Rattle.reading.proofs.EdgeRuns.{saidAlong, readerAfter, WasSent}
+use Rattle.reading.proofs.EdgeRuns.{WasSent}
 use Rattle.reading.proofs.JudgedGaps.{judged-quiet}
 use Rattle.reading.proofs.OnlyPages.{Edge, cut, wrong, passing, ending, edge-cases, only-sent}
 use Rattle.reading.proofs.ReadCaptures.{shut-says}

@@ -11,7 +11,7 @@ use lib.Dec.{eqb, ltb}
 use lib.ListN.{length, drop, length-drop, drop-of-length-le}
 use lib.Seq.{drop-nil, drop-drop}
 use borrow.Author.Tests.{ltb-true, ltb-false, le-ltb, ne-eqb}
-use Rattle.refusal.specs.Answers.{Said, nothing, refused, pageRead}
+use Rattle.refusal.specs.Answers.{Said, nothing, refused, pageRead, spoken}
 use Rattle.check_bits.specs.CheckBits.{agrees}
 use Rattle.gap.specs.declared.modes.LineMode.{LineMode}
 use Rattle.gap.specs.declared.modes.Judgement.{Judgement}
@@ -21,22 +21,12 @@ use Rattle.reader.specs.declared.reader.Reader.the-variants.{Fresh, Open, Dropp
 use Rattle.gap.specs.Clock.{timeBetween}
 use Rattle.gap.specs.Gaps.{judgementOf}
 use Rattle.reader.specs.Pattern.{asks}
-use Rattle.reader.specs.Reading.{Brings, bring, withBit, arrives, goesOn, dropsOn, edgeOf}
-use Rattle.reading.specs.Captures.{Attempt, isOpen, opensAt, attemptOf, readIn}
-use Rattle.reading.proofs.EdgeRuns.{saidAlong, readerAfter}
-
--- What was said, without the edges at which nothing was.
-abbrev pub spoken : List Said → List Said
-spoken [] = []
-spoken (s ∷ rest) = let later = spoken rest in cond (eqb (s .kind) 0) later (s ∷ later)
-
--- "the end of the capture counting as quiet"
-abbrev pub closing : Reader → List Said
-closing r = cond (isOpen r) (refused 2 ∷ []) []
+use Rattle.reader.specs.Reading.{Brings, bring, withBit, arrives, goesOn, dropsOn, edgeOf, saidAlong, readerAfter}
+use Rattle.reading.specs.Captures.{Attempt, atTheEnd, opensAt, attemptOf, readIn}
 
 -- Every attempt of a list of edges that a reader takes, as it tells them edge by edge.
 abbrev pub toldBy : LineMode → Reader → List ℕ → List Said
-toldBy m r edges = spoken (saidAlong m r edges) ++ closing (readerAfter m r edges)
+toldBy m r edges = spoken (saidAlong m r edges) ++ atTheEnd (readerAfter m r edges)
 
 abbrev pub toldFresh : LineMode → List ℕ → List Said
 toldFresh m edges = toldBy m Fresh edges
@@ -74,7 +64,7 @@ pub record Goes (m : LineMode) (r : Reader) (edges : List ℕ) (at next : ℕ) (
 
 -- What is told along edges of which the first brings this.
 abbrev tells : LineMode → Brings → List ℕ → List Said
-tells m b rest = spoken (b .says ∷ saidAlong m (b .reader) rest) ++ closing (readerAfter m (b .reader) rest)
+tells m b rest = spoken (b .says ∷ saidAlong m (b .reader) rest) ++ atTheEnd (readerAfter m (b .reader) rest)
 
 drop-later : (x : ℕ) (rest : List ℕ) (at next : ℕ) → at + 1 ≤ next → drop (next - (at + 1)) rest ≡ drop (next - at) (x ∷ rest)
 drop-later x rest at next h = ap (λ (n : ℕ). drop n (x ∷ rest)) (let e : suc (next - (at + 1)) ≡ next - at = omega arith in e)

@@ -34,6 +34,10 @@ isOpen Fresh = false
 isOpen (Open at last bits) = true
 isOpen (Dropping last) = false
 
+-- "the end of the capture counting as quiet": a Cut, if an attempt is open there.
+abbrev pub atTheEnd : Reader → List Said
+atTheEnd r = cond (isOpen r) (refused 2 ∷ []) []
+
 -- "where the next attempt opens, or the length if none does": the place of the first edge that leaves the reader with an open attempt,
 -- where the edges of the list stand at the places from `at` on.
 unfoldable pub opensAt : LineMode → Reader → List ℕ → ℕ → ℕ

@@ -2,6 +2,8 @@
 -- 01, "Language forms in the code": "Whenever an answer is an enum, a definition gives this paper's number and values for each of the enum's cases. The promises use that definition."
 use Prim.Native.Nat.{ℕ, _+_, _*_, _%_, _^_}
 use mathlib.Core.Bool.{Bool, cond}
+use mathlib.Core.List.{List, [], _∷_}
+use lib.Dec.{eqb}
 use Rattle.refusal.specs.declared.Answer.{Answer}
 use Rattle.refusal.specs.declared.Answer.the-variants.{Nothing, Refused, Page, Order, Settled, Value, Number, Quiet, Unfit}
 use Rattle.refusal.specs.Numbers.{numberOf}
@@ -66,3 +68,8 @@ said Unfit = gapUnfit
 -- which no call answers on a record that calls have made, loses its upper bits.
 abbrev pub packed : Said → ℕ
 packed s = s .kind * 2 ^ 56 + s .value % 2 ^ 56
+
+-- The answers that say something, in order.
+abbrev pub spoken : List Said → List Said
+spoken [] = []
+spoken (s ∷ rest) = let later = spoken rest in cond (eqb (s .kind) 0) later (s ∷ later)

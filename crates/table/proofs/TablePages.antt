@@ -1,4 +1,4 @@
--- P6-P8 as the write call has them: what it answers, and what stands in a list of 157 ones afterwards. The numbers come from the table.
+-- P6-P8 as the write call has them: what it answers, and what stands in a list of 157 ones afterwards. The numbers come from the examples of `line`.
 use mathlib.Core.Path.{_≡_, refl, ap, _∙_}
 use mathlib.Core.Bool.{xor}
 use mathlib.Core.List.{List}
@@ -11,7 +11,7 @@ use Rattle.gap.specs.declared.modes.Found.the-variants.{Known}
 use Rattle.gap.specs.Modes.{hsmMode, lsmMode, modeOf}
 use Rattle.line.specs.Transitions.{sentBits, hasTransition, positionsTo, transitions, readings, edgeCount}
 use Rattle.line.specs.Writing.{writeSays, writeLeaves}
-use Rattle.promises.proofs.TheTable.{table}
+use Rattle.line.proofs.LineExamples.{line-table}
 use Rattle.table.proofs.PageWritten.{says, reading, kept}
 
 abbrev pub ones : List ℕ
@@ -46,12 +46,12 @@ p6 =
     record {
       answer = says 0 hsmMode mode-0 ones 0 (omega arith) room ∙ ap number edges;
       first = reading 0 hsmMode mode-0 ones 0 (omega arith) room 0 0 (omega (arith, edges)) ∙ first-readings .hsm;
-      final = reading 0 hsmMode mode-0 ones 0 (omega arith) room 0 80 (omega (arith, edges)) ∙ table .p6 .1;
+      final = reading 0 hsmMode mode-0 ones 0 (omega arith) room 0 80 (omega (arith, edges)) ∙ line-table .p6-last;
       after = kept 0 hsmMode mode-0 ones 0 (omega arith) room 0 0 81 (omega (arith, edges));
     }
   where
     edges : edgeCount hsmMode 0 ≡ 81
-    edges = table .p6 .0
+    edges = line-table .p6-edges
 
     room : edgeCount hsmMode 0 ≤ length ones
     room = omega (arith, edges)
@@ -61,15 +61,15 @@ p7 =
     record {
       answer = says 1 lsmMode mode-1 ones 0 (omega arith) room ∙ ap number edges;
       first = reading 1 lsmMode mode-1 ones 0 (omega arith) room 0 0 (omega (arith, edges)) ∙ first-readings .lsm;
-      final = reading 1 lsmMode mode-1 ones 0 (omega arith) room 0 85 (omega (arith, edges)) ∙ table .p7 .1;
+      final = reading 1 lsmMode mode-1 ones 0 (omega arith) room 0 85 (omega (arith, edges)) ∙ line-table .p7-last;
       after = kept 1 lsmMode mode-1 ones 0 (omega arith) room 0 0 86 (omega (arith, edges));
     }
   where
     edges : edgeCount lsmMode 0 ≡ 86
-    edges = table .p7 .0
+    edges = line-table .p7-edges
 
     room : edgeCount lsmMode 0 ≤ length ones
     room = omega (arith, edges)
 
 pub p8 : writeSays 0 ones 0 (2 ^ 47) ≡ number 85
-p8 = says 0 hsmMode mode-0 ones (2 ^ 47) (omega arith) (omega (arith, table .p8)) ∙ ap number (table .p8)
+p8 = says 0 hsmMode mode-0 ones (2 ^ 47) (omega arith) (omega (arith, line-table .p8)) ∙ ap number (line-table .p8)

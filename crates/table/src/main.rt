@@ -1,6 +1,7 @@
 // 01, "Proved in a single table": P1 to P14 through the public calls. Each `expect` is proved true from the contract of the call before it,
 // and tried again when the program runs: a fact that did not hold would end the run before its line is told.
 use check::expect;
+use device::Event;
 use libc::STDOUT_FILENO;
 use state::Device;
 
@@ -102,7 +103,13 @@ fn check_rate_and_role() {
 
 // P14.
 fn check_fresh_status() {
-    let reply = registers::read(Device::fresh(), 513);
+    let reply = device::step(
+        Device::fresh(),
+        Event::Read {
+            reading: 0,
+            register: 513,
+        },
+    );
     let answer = reply.answer;
     expect(answer.packed() == REGISTER_0008);
     tell(b"P14 7.513 of a fresh device reads 0008\n");

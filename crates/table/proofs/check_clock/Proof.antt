@@ -1,6 +1,6 @@
 -- P5 of the table, handed to what the call ensures.
 use mathlib.Core.Path.{_∙_}
-use Rattle.promises.proofs.TheTable.{table}
+use Rattle.line.proofs.LineExamples.{line-table}
 use borrow.Author.Needs.{needs}
 use borrow.Author.Tests.{eq-eqb}
 use Rattle.table.proofs.check_clock.Statement.{statement}
@@ -10,7 +10,7 @@ time-between-requires : tie.Need-time-between-requires
 time-between-requires c κs = search needs
 
 expect-requires : tie.Need-expect-requires
-expect-requires c κs = eq-eqb (c .time-between .result) _ (c .time-between .ensures ∙ table .p5)
+expect-requires c κs = eq-eqb (c .time-between .result) _ (c .time-between .ensures ∙ line-table .p5)
 
 slice-aggregate-tell : tie.Need-slice-aggregate-tell
 slice-aggregate-tell c = search needs

@@ -1,9 +1,11 @@
--- P14 of the table, handed to what the read of a fresh device ensures.
+-- P14, handed to what the event "read" ensures of a fresh device.
 use mathlib.Core.Path.{ap, _∙_}
 use Rattle.refusal.specs.Answers.{packed}
-use Rattle.promises.proofs.TheTable.{table}
 use Rattle.state.specs.declared.Device.{Device}
-use Rattle.registers.specs.Registers.{readDue}
+use Rattle.state.specs.Memory.{Due}
+use Rattle.device.specs.declared.events.Event.the-variants.{Read}
+use Rattle.device.specs.Steps.{stepDue}
+use Rattle.device.proofs.DeviceExamples.{p14}
 use borrow.Author.Needs.{needs}
 use borrow.Author.Tests.{eq-eqb}
 use Rattle.table.proofs.check_fresh_status.Statement.{statement}
@@ -12,18 +14,18 @@ use Rattle.table.proofs.check_fresh_status.Tie as tie
 fresh-requires : tie.Need-fresh-requires
 fresh-requires c κs = search needs
 
-read-requires : tie.Need-read-requires
-read-requires c κs = search needs
+step-requires : tie.Need-step-requires
+step-requires c κs = search needs
 
 packed-requires : tie.Need-packed-requires
 packed-requires c κs = search needs
 
 expect-requires : tie.Need-expect-requires
 expect-requires c κs =
-    let read = c .before in
-    let fresh = read .before in
+    let step = c .before in
+    let fresh = step .before in
     eq-eqb (c .packed .result) _
-    (c .packed .ensures ∙ ap packed (read .read .ensures .answer ∙ ap (λ (d : Device). readDue 513 d .says) (fresh .fresh .ensures) ∙ table .p14))
+    (c .packed .ensures ∙ ap packed (step .step .ensures .answer ∙ ap (λ (d : Device). stepDue (Read 0 513) d .says) (fresh .fresh .ensures) ∙ ap (λ (x : Due). x .says) p14))
 
 slice-aggregate-tell : tie.Need-slice-aggregate-tell
 slice-aggregate-tell c = search needs
@@ -39,7 +41,7 @@ check-fresh-status-spec =
     tie.close
     (tie.spec
     fresh-requires
-    read-requires
+    step-requires
     packed-requires
     expect-requires
     slice-aggregate-tell

@@ -1,7 +1,7 @@
 -- P9-P13 of the table, each handed to what the call ensures.
 use mathlib.Core.Path.{ap, _∙_}
 use Rattle.refusal.specs.Answers.{packed}
-use Rattle.promises.proofs.TheTable.{table}
+use Rattle.resolve.proofs.ResolveExamples.{resolve-table}
 use borrow.Author.Needs.{needs}
 use borrow.Author.Tests.{eq-eqb}
 use Rattle.table.proofs.check_rate_and_role.Statement.{statement}
@@ -14,7 +14,7 @@ packed-requires : tie.Need-packed-requires
 packed-requires c κs = search needs
 
 expect-requires : tie.Need-expect-requires
-expect-requires c κs = eq-eqb (c .packed .result) _ (c .packed .ensures ∙ ap packed (c .before .resolve .ensures .1 ∙ table .p9))
+expect-requires c κs = eq-eqb (c .packed .result) _ (c .packed .ensures ∙ ap packed (c .before .resolve .ensures .1 ∙ resolve-table .p9))
 
 slice-aggregate-tell : tie.Need-slice-aggregate-tell
 slice-aggregate-tell c = search needs
@@ -29,7 +29,7 @@ packed-requires-2 : tie.Need-packed-requires-2
 packed-requires-2 c κs = search needs
 
 expect-requires-2 : tie.Need-expect-requires-2
-expect-requires-2 c κs = eq-eqb (c .packed2 .result) _ (c .packed2 .ensures ∙ ap packed (c .before .resolve2 .ensures .1 ∙ table .p10))
+expect-requires-2 c κs = eq-eqb (c .packed2 .result) _ (c .packed2 .ensures ∙ ap packed (c .before .resolve2 .ensures .1 ∙ resolve-table .p10))
 
 slice-aggregate-tell-2 : tie.Need-slice-aggregate-tell-2
 slice-aggregate-tell-2 c = search needs
@@ -44,7 +44,7 @@ packed-requires-3 : tie.Need-packed-requires-3
 packed-requires-3 c κs = search needs
 
 expect-requires-3 : tie.Need-expect-requires-3
-expect-requires-3 c κs = eq-eqb (c .packed3 .result) _ (c .packed3 .ensures ∙ ap packed (c .before .resolve3 .ensures .1 ∙ table .p11))
+expect-requires-3 c κs = eq-eqb (c .packed3 .result) _ (c .packed3 .ensures ∙ ap packed (c .before .resolve3 .ensures .1 ∙ resolve-table .p11))
 
 slice-aggregate-tell-3 : tie.Need-slice-aggregate-tell-3
 slice-aggregate-tell-3 c = search needs
@@ -59,7 +59,7 @@ packed-requires-4 : tie.Need-packed-requires-4
 packed-requires-4 c κs = search needs
 
 expect-requires-4 : tie.Need-expect-requires-4
-expect-requires-4 c κs = eq-eqb (c .packed4 .result) _ (c .packed4 .ensures ∙ ap packed (c .before .resolve4 .ensures .1 ∙ table .p12))
+expect-requires-4 c κs = eq-eqb (c .packed4 .result) _ (c .packed4 .ensures ∙ ap packed (c .before .resolve4 .ensures .1 ∙ resolve-table .p12))
 
 slice-aggregate-tell-4 : tie.Need-slice-aggregate-tell-4
 slice-aggregate-tell-4 c = search needs
@@ -74,7 +74,7 @@ packed-requires-5 : tie.Need-packed-requires-5
 packed-requires-5 c κs = search needs
 
 expect-requires-5 : tie.Need-expect-requires-5
-expect-requires-5 c κs = eq-eqb (c .packed5 .result) _ (c .packed5 .ensures ∙ ap packed (c .before .resolve5 .ensures .1 ∙ table .p13))
+expect-requires-5 c κs = eq-eqb (c .packed5 .result) _ (c .packed5 .ensures ∙ ap packed (c .before .resolve5 .ensures .1 ∙ resolve-table .p13))
 
 slice-aggregate-tell-5 : tie.Need-slice-aggregate-tell-5
 slice-aggregate-tell-5 c = search needs

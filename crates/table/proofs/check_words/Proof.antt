@@ -1,6 +1,6 @@
 -- P1-P4 of the table, each handed to what the call ensures.
 use mathlib.Core.Path.{_∙_}
-use Rattle.promises.proofs.TheTable.{table}
+use Rattle.check_bits.proofs.CheckTheorem.{check-examples}
 use borrow.Author.Needs.{needs}
 use borrow.Author.Tests.{eq-eqb}
 use Rattle.table.proofs.check_words.Statement.{statement}
@@ -10,7 +10,7 @@ check-bits-requires : tie.Need-check-bits-requires
 check-bits-requires c κs = search needs
 
 expect-requires : tie.Need-expect-requires
-expect-requires c κs = eq-eqb (c .check-bits .result) _ (c .check-bits .ensures ∙ table .p1)
+expect-requires c κs = eq-eqb (c .check-bits .result) _ (c .check-bits .ensures ∙ check-examples .p1)
 
 slice-aggregate-tell : tie.Need-slice-aggregate-tell
 slice-aggregate-tell c = search needs
@@ -22,7 +22,7 @@ check-bits-requires-2 : tie.Need-check-bits-requires-2
 check-bits-requires-2 c κs = search needs
 
 expect-requires-2 : tie.Need-expect-requires-2
-expect-requires-2 c κs = eq-eqb (c .check-bits2 .result) _ (c .check-bits2 .ensures ∙ table .p2)
+expect-requires-2 c κs = eq-eqb (c .check-bits2 .result) _ (c .check-bits2 .ensures ∙ check-examples .p2)
 
 slice-aggregate-tell-2 : tie.Need-slice-aggregate-tell-2
 slice-aggregate-tell-2 c = search needs
@@ -34,7 +34,7 @@ check-bits-requires-3 : tie.Need-check-bits-requires-3
 check-bits-requires-3 c κs = search needs
 
 expect-requires-3 : tie.Need-expect-requires-3
-expect-requires-3 c κs = eq-eqb (c .check-bits3 .result) _ (c .check-bits3 .ensures ∙ table .p3)
+expect-requires-3 c κs = eq-eqb (c .check-bits3 .result) _ (c .check-bits3 .ensures ∙ check-examples .p3)
 
 slice-aggregate-tell-3 : tie.Need-slice-aggregate-tell-3
 slice-aggregate-tell-3 c = search needs
@@ -46,7 +46,7 @@ check-bits-requires-4 : tie.Need-check-bits-requires-4
 check-bits-requires-4 c κs = search needs
 
 expect-requires-4 : tie.Need-expect-requires-4
-expect-requires-4 c κs = eq-eqb (c .check-bits4 .result) _ (c .check-bits4 .ensures ∙ table .p4)
+expect-requires-4 c κs = eq-eqb (c .check-bits4 .result) _ (c .check-bits4 .ensures ∙ check-examples .p4)
 
 slice-aggregate-tell-4 : tie.Need-slice-aggregate-tell-4
 slice-aggregate-tell-4 c = search needs
