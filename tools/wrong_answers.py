@@ -21,7 +21,7 @@ MISFIT = re.compile(
     r'has no field|is not in scope|not found|unknown|cannot be found|too many arguments|too few arguments|expected a function|'
     r'takes? (?:only )?\d+ arguments?|no such|does not name|parse|syntax|is not declared|unexpected|ends before|can be named from here')
 ERROR = re.compile(r'^proofs/(\S+?)(?:/Proof)?\.antt:\d+:\d+: error: `([^`]+)`: ')
-UNPROVED = re.compile(r'^note: (src/\S+: it is not proved that .*) \(`([^`]+)`\)$')
+UNPROVED = re.compile(r'^note: (src/\S+: it is not proved that .* \(`([^`]+)`\))$')
 MADE_BY_SEARCH = re.compile(r'^fn \S+: no proof: expected `[^`]+` in proofs/(\S+)/Proof\.antt; `search` does not close (.*)$')
 
 
