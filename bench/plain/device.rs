@@ -460,7 +460,7 @@ impl Device {
 }
 
 /// A fresh device takes the events, three cells each, and each gets its answer; tells their number.
-pub fn run(events: &[u64], answers: &mut [u64]) -> Result<u64, Refusal> {
+pub(crate) fn run(events: &[u64], answers: &mut [u64]) -> Result<u64, Refusal> {
     let count = events.len() / 3;
     let answers = answers.get_mut(..count).ok_or(Refusal::Room)?;
     let mut device = Device::fresh();
