@@ -1,14 +1,14 @@
 -- What the reader says, and what the device makes of it: only a good page is looked at further.
-use mathlib.Core.Path.{_≡_, refl, sym, ap, _∙_}
+use mathlib.Core.Path.{_≡_, sym, ap, _∙_}
 use mathlib.Core.Bool.{Bool, false, cond}
 use Prim.Native.Nat.{ℕ}
+use native.Mathlib.Omega.{arith}
 use lib.Dec.{eqb}
 use Rattle.refusal.specs.declared.Answer.{Answer}
 use Rattle.refusal.specs.declared.Answer.the-variants.{Refused, Page}
 use Rattle.refusal.specs.declared.Refusal.{Refusal}
-use Rattle.refusal.specs.declared.Refusal.the-variants.{Gap, Cut, Check, Selector, Tie, Changed, Echo, None, Roles, Register, Turn, Room, Wide, Mode, Odd}
-use Rattle.refusal.specs.Numbers.{numberOf}
 use Rattle.refusal.specs.Answers.{Said, said}
+use Rattle.refusal.proofs.OneAnswer.{no-refusal}
 use Rattle.reader.specs.declared.reader.Step.{Step}
 use Rattle.reader.specs.Reading.{Brings, Gives, bring}
 use Rattle.state.specs.declared.Device.{Device}
@@ -41,25 +41,7 @@ other-heard {r} {s} {b} {a} {next} d reading met moved g same other =
     ∙ (sym (ap (λ (t : Bool). cond t (pageIn (d .state) (said a .value) reading (withReader (s .reader) d)) (due (said a) (withReader (s .reader) d))) other)
     ∙ (ap (λ (x : Answer). listened (bring (said x) (s .reader)) reading d) (sym same) ∙ ap (λ (x : Brings). listened x reading d) (sym (brought g)))))
 
--- No refusal's number is that of a good page.
-refusal-no-page : (refusal : Refusal) → eqb (numberOf refusal) 0x80 ≡ false
-refusal-no-page Gap = refl
-refusal-no-page Cut = refl
-refusal-no-page Check = refl
-refusal-no-page Selector = refl
-refusal-no-page Tie = refl
-refusal-no-page Changed = refl
-refusal-no-page Echo = refl
-refusal-no-page None = refl
-refusal-no-page Roles = refl
-refusal-no-page Register = refl
-refusal-no-page Turn = refl
-refusal-no-page Room = refl
-refusal-no-page Wide = refl
-refusal-no-page Mode = refl
-refusal-no-page Odd = refl
-
--- So a refusal is answered as it is.
+-- A refusal is answered as it is.
 pub refusal-heard : {r : Reply} {s : Step} {b : Brings} {next : Device} (refusal : Refusal) (d : Device) (reading : ℕ) → Meets r (due (said (Refused refusal)) next)
     → next ≡ withReader (s .reader) d → Gives s b → s .answer ≡ Refused refusal → Meets r (listened b reading d)
-refusal-heard refusal d reading met moved g same = other-heard d reading met moved g same (refusal-no-page refusal)
+refusal-heard refusal d reading met moved g same = other-heard d reading met moved g same (no-refusal refusal 0x80 (omega arith))

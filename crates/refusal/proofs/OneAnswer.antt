@@ -3,13 +3,13 @@
 -- The number of an ability is a byte in the code; here that is the premise `Sayable`.
 use mathlib.Core.Path.{_≡_, refl, sym, ap, _∙_}
 use mathlib.Core.Bool.{Bool, true, false, cond}
-use Prim.Native.Nat.{ℕ, _+_, _-_, _/_, _^_, _<_}
+use Prim.Native.Nat.{ℕ, _+_, _-_, _/_, _^_, _<_, _≤_}
 use native.Mathlib.Nat.{mod-lt}
 use native.Mathlib.Omega.{arith}
 use lib.Arith.{digits-div}
 use lib.Dec.{eqb, leb, ltb}
 use lib.Pow.{pow-pos}
-use borrow.Author.Tests.{le-leb, lt-leb}
+use borrow.Author.Tests.{le-leb, lt-leb, ne-eqb}
 use Rattle.refusal.specs.declared.Refusal.{Refusal}
 use Rattle.refusal.specs.declared.Refusal.the-variants.{Gap, Cut, Check, Selector, Tie, Changed, Echo, None, Roles, Register, Turn, Room, Wide, Mode, Odd}
 use Rattle.refusal.specs.declared.Answer.{Answer}
@@ -117,6 +117,27 @@ never-zero Room = refl
 never-zero Wide = refl
 never-zero Mode = refl
 never-zero Odd = refl
+
+-- and none has a number beyond 01's table.
+pub at-most-15 : (r : Refusal) → numberOf r ≤ 15
+at-most-15 Gap = omega arith
+at-most-15 Cut = omega arith
+at-most-15 Check = omega arith
+at-most-15 Selector = omega arith
+at-most-15 Tie = omega arith
+at-most-15 Changed = omega arith
+at-most-15 Echo = omega arith
+at-most-15 None = omega arith
+at-most-15 Roles = omega arith
+at-most-15 Register = omega arith
+at-most-15 Turn = omega arith
+at-most-15 Room = omega arith
+at-most-15 Wide = omega arith
+at-most-15 Mode = omega arith
+at-most-15 Odd = omega arith
+
+pub no-refusal : (r : Refusal) (kind : ℕ) → 16 ≤ kind → eqb (numberOf r) kind ≡ false
+no-refusal r kind beyond = ne-eqb (numberOf r) kind (λ same. let most = at-most-15 r in absurd (omega arith))
 
 -- The kind of an answer is read off its number.
 pub kind-of-packed : (s : Said) → packed s / 2 ^ 56 ≡ s .kind

@@ -1,5 +1,5 @@
 -- 01, "The negotiation (LSM)": "A timer has run out when the time since its start is at least its number, looked at on ticks only."
-use Prim.Native.Nat.{ℕ}
+use Prim.Native.Nat.{ℕ, _/_, _%_, _^_}
 use mathlib.Core.Bool.{Bool, cond}
 use mathlib.Core.List.{[], _∷_}
 use lib.Dec.{eqb, leb}
@@ -38,3 +38,7 @@ inhibitOf (Value value) = inhibit
 inhibitOf (Number n) = inhibit
 inhibitOf Quiet = inhibit
 inhibitOf Unfit = inhibit
+
+-- The same by the outcome's number: its kind, 0x82 for rate and role, and the byte that has the ability.
+unfoldable pub inhibitAt : ℕ → ℕ
+inhibitAt number = cond (eqb (number / 2 ^ 56) 0x82) (inhibitFor (number % 256)) inhibit

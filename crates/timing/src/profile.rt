@@ -1,6 +1,7 @@
 // The numbers of the timers, and when one has run out.
 ghost use mathlib.Core.Path.{_≡_};
-ghost use Rattle.timing.specs.Timers.{runOut, lowSpeed, inhibitFor, inhibitOf};
+ghost use Rattle.refusal.specs.Answers.{said, packed};
+ghost use Rattle.timing.specs.Timers.{runOut, lowSpeed, inhibitFor, inhibitOf, inhibitAt};
 use gap::LineMode;
 use gap::time_between;
 use refusal::Answer;
@@ -51,19 +52,44 @@ fn inhibit_for(ability: u8) -> u32
     INHIBIT
 }
 
-// The inhibit timer's number for an outcome.
+// 2^56: the kind of an answer stands above its value.
+const KIND: u64 = 72057594037927936;
+
+// The kind of an answer that has rate and role.
+const SETTLED: u64 = 130;
+
+// The inhibit timer's number for an outcome that is given as one number.
+fn inhibit_at(number: u64) -> u32
+    ensures { λ r. ⌜ r ≡ inhibitAt number ⌝ }
+{
+    if number / KIND != SETTLED {
+        return INHIBIT;
+    }
+    inhibit_for((number % 256) as u8)
+}
+
+// Nothing is done here: going through the cases shows that an ability is a byte, so that the number tells the rate.
+fn number_tells(outcome: Answer) -> bool
+    ensures { λ _. ⌜ inhibitAt (packed (said outcome)) ≡ inhibitOf outcome ⌝ }
+{
+    match outcome {
+        Answer::Settled { ability, master } => true,
+        Answer::Nothing => true,
+        Answer::Refused(refusal) => true,
+        Answer::Page(word) => true,
+        Answer::Order(word) => true,
+        Answer::Value(value) => true,
+        Answer::Number(number) => true,
+        Answer::Quiet => true,
+        Answer::Unfit => true,
+    }
+}
+
+// The inhibit timer's number for an outcome. It goes by the outcome's number, which is made of all its fields: of a match, which looks at two
+// of them, the compiler makes copies of the others as bytes at every event (bench/README.md).
 pub(crate) fn inhibit_of(outcome: Answer) -> u32
     ensures { λ r. ⌜ r ≡ inhibitOf outcome ⌝ }
 {
-    match outcome {
-        Answer::Settled { ability, master } => inhibit_for(ability),
-        Answer::Nothing => INHIBIT,
-        Answer::Refused(refusal) => INHIBIT,
-        Answer::Page(word) => INHIBIT,
-        Answer::Order(word) => INHIBIT,
-        Answer::Value(value) => INHIBIT,
-        Answer::Number(number) => INHIBIT,
-        Answer::Quiet => INHIBIT,
-        Answer::Unfit => INHIBIT,
-    }
+    number_tells(outcome);
+    inhibit_at(outcome.packed())
 }

@@ -1,4 +1,6 @@
+use mathlib.Core.Path.{ap, _∙_}
 use borrow.Author.Needs.{needs}
+use Rattle.timing.specs.Timers.{inhibitAt}
 use Rattle.timing.proofs.profile.inhibit_of.Statement.{statement}
 use Rattle.timing.proofs.profile.inhibit_of.Tie as tie
 
@@ -6,6 +8,5 @@ pub inhibit-of-spec : {M : Type 1} → statement M
 inhibit-of-spec =
     tie.close
     (tie.spec
-    (λ c. search needs) (λ c κs. search needs) (λ c. search needs) (λ c. search needs) (λ c. search needs) (λ c. search needs) (λ c. search needs) (λ c. search needs) (λ c. search needs) (λ c. search needs)
-    (λ c. simp (← c .inhibit-for .ensures, c .before .before .outcome .given .1))
-    (λ c. search needs) (λ c. search needs) (λ c. search needs) (λ c. search needs) (λ c. search needs) (λ c. search needs) (λ c. search needs) (λ c. search needs))
+    (λ c κs. search needs) (λ c κs. search needs) (λ c κs. search needs)
+    (λ c. c .inhibit-at .ensures ∙ ap inhibitAt (c .before .packed .ensures) ∙ c .before .before .number-tells .ensures))
