@@ -6,6 +6,7 @@ ghost use Rattle.listing_text.specs.Listing.{listing};
 use libc::STDERR_FILENO;
 use libc::STDIN_FILENO;
 use libc::STDOUT_FILENO;
+use refusal::KIND;
 
 // Room for the longest input and one byte more, so that a longer one is seen to be too long.
 fn input_space() -> [u8; 32002]
@@ -27,9 +28,6 @@ fn output_space() -> [u8; 184040]
 {
     [0; 184040]
 }
-
-// 2^56: the number of an answer stands below its kind.
-const KIND: u64 = 72057594037927936;
 
 // Puts the listing of the input at the head of the output, and answers how many bytes it has.
 fn list(input: &[u8], readings: &mut [u32], output: &mut [u8]) -> usize

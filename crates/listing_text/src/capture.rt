@@ -6,9 +6,7 @@ ghost use Rattle.listing_text.specs.Listing.{captureListing};
 use crate::text::put_attempt;
 use crate::text::put_first_line;
 use crate::text::put_last_line;
-
-// 2^56: the kind of an answer stands above its value.
-const KIND: u64 = 72057594037927936;
+use refusal::KIND;
 
 // The first line, a line for each attempt from place to next place, and the last line.
 pub(crate) fn list_capture(capture: &[u32], mode: u32, output: &mut [u8]) -> usize

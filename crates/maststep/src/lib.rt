@@ -8,6 +8,7 @@ ghost use Rattle.line.specs.Writing.{writeSays, writeLeaves};
 ghost use Rattle.reading.specs.Captures.{readOf};
 ghost use Rattle.device.specs.Runs.{runSays, runLeaves};
 ghost use Rattle.maststep.specs.NextPlace.{nextLeft};
+use refusal::KIND;
 
 // The check bits of a word, or 13.
 #[no_mangle]
@@ -47,9 +48,6 @@ pub extern "C" fn maststep_write(
 {
     line::write(list, place, mode, word, first).packed()
 }
-
-// 2^56: the kind of an answer stands above its value.
-const KIND: u64 = 72057594037927936;
 
 // The first attempt from a place of a capture on: its outcome, nothing at the end of the capture, or 14, 12; and where the next attempt opens.
 #[no_mangle]

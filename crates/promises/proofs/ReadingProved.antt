@@ -28,17 +28,13 @@ use Rattle.reading.specs.Captures.{Attempt, ends, isOpen, readIn, readBy, readO
 use Rattle.reading.proofs.EdgeRuns.{gapsAfter, gaps, edgeGaps, Sends, WasSent, Begins}
 use Rattle.reading.proofs.OnlyPages as only
 use Rattle.reading.proofs.SentGaps.{afterClock, transitions-listed}
-use Rattle.reading.proofs.SinceOpened.{startsAt, SaidPage}
+use Rattle.reading.proofs.SinceOpened.{after-append, startsAt, SaidPage}
 use Rattle.reading.proofs.ReadTheorem.{ReadsBack, reads-back}
 use Rattle.reading.proofs.ReadCalls as calls
 use Rattle.reading.proofs.WriteThenRead.{written-sends, write-then-read}
 use Rattle.reading.proofs.Walk as walk
 use Rattle.listing_text.specs.Listing.{attemptsFrom}
 use Rattle.promises.specs.ReadingBack.{fitsBehind, fits, Carries, atTheLast, opensAfter, EndsWith, BeginsWith, ReadingBack}
-
-after-append : (m : LineMode) (r : Reader) (past : List ℕ) (x : ℕ) → readerAfter m r (past ++ (x ∷ [])) ≡ edgeOf m (readerAfter m r past) x .reader
-after-append m r [] x = refl
-after-append m r (y ∷ past) x = after-append m (edgeOf m r y .reader) past x
 
 -- Edges in the windows: a test here, a relation there.
 within-near : (m : LineMode) (k gap : ℕ) → within m k gap ≡ true → Near m k gap
@@ -167,7 +163,7 @@ reading-back mode m known apart clock =
       after-quiet = λ past last x w edges q word carried.
           after (readerAfter m Fresh (past ++ (last ∷ []))) x w edges
           (quiet-opens m apart (readerAfter m Fresh (past ++ (last ∷ []))) last x
-          (subst (LastAt last) (sym (after-append m Fresh past last)) (last-at m (readerAfter m Fresh past) last)) q) word carried;
+          (subst (LastAt last) (sym (after-append m Fresh past (last ∷ []))) (last-at m (readerAfter m Fresh past) last)) q) word carried;
       one-word = λ v w edges first second a b. back .one-word v w edges first second (carries-sends m v edges a) (carries-sends m w edges b);
       nothing-else = λ past x w h.
           since past x w (back .any-past w x past h);

@@ -98,7 +98,7 @@ each-refusal =
       room-read = refl;
       room-past-end = record { says = refl; kept = refl };
       room-fewer = record { says = refl; kept = refl };
-      room-run = (refl, refl);
+      room-run = record { says = refl; kept = refl };
       wide = record { says = refl; kept = refl };
       mode = record { says = refl; kept = refl };
       mode-first = record { says = refl; kept = refl };

@@ -42,6 +42,11 @@ pub record ListKept (mode : ℕ) (list : List ℕ) (place word n : ℕ) : Type 0
   pub says : writeSays mode list place word ≡ refused n
   pub kept : writeLeaves mode list place word 0 ≡ list
 
+-- A run call: refused with this number, and the list for its answers kept.
+pub record RunKept (events answers : List ℕ) (n : ℕ) : Type 0 where
+  pub says : runSays events answers ≡ refused n
+  pub kept : runLeaves events answers ≡ answers
+
 -- A word's page, but with sixteen zeros where its check bits belong.
 abbrev pub pageUnchecked : ℕ → ℕ → List Event
 pageUnchecked reading word =
@@ -90,7 +95,7 @@ pub record EachRefusal : Type 0 where
   pub room-past-end : ListKept 0 (replicate 81 7) 82 0 12
   pub room-fewer : ListKept 0 (replicate 80 7) 0 0 12
   -- A run of two events, both ticks, with room for one answer.
-  pub room-run : (runSays (1 ∷ 0 ∷ 0 ∷ 1 ∷ 0 ∷ 0 ∷ []) (7 ∷ []) ≡ refused 12) × (runLeaves (1 ∷ 0 ∷ 0 ∷ 1 ∷ 0 ∷ 0 ∷ []) (7 ∷ []) ≡ 7 ∷ [])
+  pub room-run : RunKept (1 ∷ 0 ∷ 0 ∷ 1 ∷ 0 ∷ 0 ∷ []) (7 ∷ []) 12
   -- 13, Wide: "word 2^48 or more; list kept"
   pub wide : ListKept 0 (replicate 150 7) 0 (2 ^ 48) 13
   -- 14, Mode: "not 0 or 1; list kept"

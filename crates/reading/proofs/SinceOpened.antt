@@ -27,7 +27,7 @@ said-append : (m : LineMode) (r : Reader) (a b : List ℕ) → saidAlong m r (a 
 said-append m r [] b = refl
 said-append m r (x ∷ a) b = ap (λ (l : List Said). edgeOf m r x .says ∷ l) (said-append m (edgeOf m r x .reader) a b)
 
-after-append : (m : LineMode) (r : Reader) (a b : List ℕ) → readerAfter m r (a ++ b) ≡ readerAfter m (readerAfter m r a) b
+pub after-append : (m : LineMode) (r : Reader) (a b : List ℕ) → readerAfter m r (a ++ b) ≡ readerAfter m (readerAfter m r a) b
 after-append m r [] b = refl
 after-append m r (x ∷ a) b = after-append m (edgeOf m r x .reader) a b
 

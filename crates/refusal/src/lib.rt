@@ -63,7 +63,7 @@ impl Refusal {
 }
 
 // 2^56: the kind of an answer stands above its value.
-const KIND: u64 = 72057594037927936;
+pub const KIND: u64 = 72057594037927936;
 
 // A kind and a value as one number.
 fn joined(kind: u8, value: u64) -> u64

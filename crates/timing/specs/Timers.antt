@@ -39,6 +39,7 @@ inhibitOf (Number n) = inhibit
 inhibitOf Quiet = inhibit
 inhibitOf Unfit = inhibit
 
--- The same by the outcome's number: its kind, 0x82 for rate and role, and the byte that has the ability.
+-- The same by the outcome's number, as the code goes: its kind, 0x82 for rate and role, and the byte that has the ability. No public contract cites
+-- it, and `by-number` in proofs/OutcomeLaws shows that it is the same.
 unfoldable pub inhibitAt : ℕ → ℕ
 inhibitAt number = cond (eqb (number / 2 ^ 56) 0x82) (inhibitFor (number % 256)) inhibit

@@ -5,6 +5,7 @@ ghost use Rattle.timing.specs.Timers.{runOut, lowSpeed, inhibitFor, inhi
 use gap::LineMode;
 use gap::time_between;
 use refusal::Answer;
+use refusal::KIND;
 
 // The line mode's numbers, and those of the break timer, silent and wait, in ns.
 pub struct Profile {
@@ -51,9 +52,6 @@ fn inhibit_for(ability: u8) -> u32
     }
     INHIBIT
 }
-
-// 2^56: the kind of an answer stands above its value.
-const KIND: u64 = 72057594037927936;
 
 // The kind of an answer that has rate and role.
 const SETTLED: u64 = 130;
