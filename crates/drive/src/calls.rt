@@ -3,10 +3,10 @@ ghost use mathlib.Core.Path.{_≡_};
 ghost use Prim.Native.Nat.{_+_, _≤_};
 ghost use lib.ListN.{length};
 use crate::runs::run;
-use gap::LineMode;
-use reader::Reader;
-use refusal::Answer;
-use refusal::Refusal;
+use answers::Answer;
+use answers::Refusal;
+use line_mode::LineMode;
+use line_reader::Reader;
 
 // A mode as a cell: every number from 2 on is a wrong mode.
 fn mode_of(cell: u64) -> u32 {
@@ -87,7 +87,7 @@ fn write(
     let count = size - 4;
     take_entries(cells, from + 4, count, list);
     let place = cells[from + 3] as usize;
-    let answer = line::write(
+    let answer = line_writer::write(
         &mut list[..count],
         place,
         mode_of(cells[from]),
@@ -123,7 +123,7 @@ fn read(
     let count = size - 2;
     take_entries(cells, from + 2, count, list);
     let place = cells[from + 1] as usize;
-    let outcome = reading::read(&list[..count], place, mode_of(cells[from]));
+    let outcome = line_captures::read(&list[..count], place, mode_of(cells[from]));
     let answer = outcome.answer;
     tell_two(answers, told, answer.packed(), outcome.next as u64)
 }
@@ -136,7 +136,7 @@ fn resolve(cells: &[u64; 65536], from: usize, answers: &mut [u64; 65536], told: 
     tell_one(
         answers,
         told,
-        resolve::resolve(cells[from], cells[from + 1]).packed(),
+        page_resolve::resolve(cells[from], cells[from + 1]).packed(),
     )
 }
 
@@ -206,7 +206,7 @@ fn answer_one(
 {
     if operation == 1 {
         if 1 <= size {
-            return tell_one(answers, told, check_bits::check(cells[from]).packed());
+            return tell_one(answers, told, page_check_bits::check(cells[from]).packed());
         }
     }
     if operation == 2 {
@@ -214,7 +214,7 @@ fn answer_one(
             return tell_one(
                 answers,
                 told,
-                gap::judge(mode_of(cells[from]), low_half(cells[from + 1])).packed(),
+                line_mode::judge(mode_of(cells[from]), low_half(cells[from + 1])).packed(),
             );
         }
     }

@@ -51,7 +51,7 @@ fn run_on(
 {
     let count = size / 3;
     take_events(cells, from, size, events);
-    device::run(&events[..size], &mut said[..count]);
+    port_step::run(&events[..size], &mut said[..count]);
     tell_answers(answers, told, said, count)
 }
 

@@ -2,11 +2,11 @@
 ghost use mathlib.Core.Path.{_≡_};
 ghost use lib.ListN.{length, take};
 ghost use Rattle.io.specs.Counts.{Counts};
-ghost use Rattle.listing_text.specs.Listing.{listing};
+ghost use Rattle.bench_listing.specs.Listing.{listing};
+use answers::KIND;
 use libc::STDERR_FILENO;
 use libc::STDIN_FILENO;
 use libc::STDOUT_FILENO;
-use refusal::KIND;
 
 // Room for the longest input and one byte more, so that a longer one is seen to be too long.
 fn input_space() -> [u8; 32002]
@@ -35,7 +35,7 @@ fn list(input: &[u8], readings: &mut [u32], output: &mut [u8]) -> usize
     ensures { λ r. ⌜ Counts r (now (output .exit)) ⌝ }
     ensures { λ r. ⌜ take r (now (output .exit)) ≡ listing (now (input .entry)) ⌝ }
 {
-    let answer = listing_text::list(input, readings, output);
+    let answer = bench_listing::list(input, readings, output);
     (answer.packed() % KIND) as usize
 }
 

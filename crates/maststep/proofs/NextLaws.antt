@@ -4,9 +4,9 @@ use mathlib.Core.Bool.{Bool, true, false, _||_}
 use Prim.Native.Nat.{ℕ, _/_, _^_}
 use lib.Dec.{eqb}
 use borrow.Author.Tests.{eq-eqb, ne-eqb}
-use Rattle.refusal.specs.Answers.{packed}
-use Rattle.refusal.proofs.OneAnswer.{kind-of-packed}
-use Rattle.reading.specs.Captures.{Attempt}
+use Rattle.answers.specs.Answers.{packed}
+use Rattle.answers.proofs.OneAnswer.{kind-of-packed}
+use Rattle.line_captures.specs.Captures.{Attempt}
 use Rattle.maststep.specs.NextPlace.{nextLeft}
 
 module _ (a : Attempt) (old answer : ℕ) (is : answer ≡ packed (a .says)) where

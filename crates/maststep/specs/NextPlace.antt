@@ -2,7 +2,7 @@
 use Prim.Native.Nat.{ℕ}
 use mathlib.Core.Bool.{cond, _||_}
 use lib.Dec.{eqb}
-use Rattle.reading.specs.Captures.{Attempt}
+use Rattle.line_captures.specs.Captures.{Attempt}
 
 unfoldable pub nextLeft : Attempt → ℕ → ℕ
 nextLeft attempt old = cond (eqb (attempt .says .kind) 14 || eqb (attempt .says .kind) 12) old (attempt .next)

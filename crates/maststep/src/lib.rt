@@ -1,21 +1,21 @@
 // The C functions of the static library, thin over the crates: each gives the answer as one number. include/maststep.h declares them.
 ghost use mathlib.Core.Path.{_≡_};
-ghost use Rattle.refusal.specs.Answers.{packed};
-ghost use Rattle.check_bits.specs.Checked.{checked};
-ghost use Rattle.resolve.specs.Resolving.{resolveSays};
-ghost use Rattle.gap.specs.Gaps.{judged};
-ghost use Rattle.line.specs.Writing.{writeSays, writeLeaves};
-ghost use Rattle.reading.specs.Captures.{readOf};
-ghost use Rattle.device.specs.Runs.{runSays, runLeaves};
+ghost use Rattle.answers.specs.Answers.{packed};
+ghost use Rattle.page_check_bits.specs.Checked.{checked};
+ghost use Rattle.page_resolve.specs.Resolving.{resolveSays};
+ghost use Rattle.line_mode.specs.Gaps.{judged};
+ghost use Rattle.line_writer.specs.Writing.{writeSays, writeLeaves};
+ghost use Rattle.line_captures.specs.Captures.{readOf};
+ghost use Rattle.port_step.specs.Runs.{runSays, runLeaves};
 ghost use Rattle.maststep.specs.NextPlace.{nextLeft};
-use refusal::KIND;
+use answers::KIND;
 
 // The check bits of a word, or 13.
 #[no_mangle]
 pub extern "C" fn maststep_check(word: u64) -> u64
     ensures { λ r. ⌜ r ≡ packed (checked word) ⌝ }
 {
-    check_bits::check(word).packed()
+    page_check_bits::check(word).packed()
 }
 
 // What two words settle on, ability and role, or 13, 4, 5, 8, 9.
@@ -23,7 +23,7 @@ pub extern "C" fn maststep_check(word: u64) -> u64
 pub extern "C" fn maststep_resolve(own: u64, partner: u64) -> u64
     ensures { λ r. ⌜ r ≡ packed (resolveSays own partner) ⌝ }
 {
-    resolve::resolve(own, partner).packed()
+    page_resolve::resolve(own, partner).packed()
 }
 
 // How a gap counts in a mode, or 14.
@@ -31,7 +31,7 @@ pub extern "C" fn maststep_resolve(own: u64, partner: u64) -> u64
 pub extern "C" fn maststep_judge(mode: u32, gap: u32) -> u64
     ensures { λ r. ⌜ r ≡ packed (judged mode gap) ⌝ }
 {
-    gap::judge(mode, gap).packed()
+    line_mode::judge(mode, gap).packed()
 }
 
 // Writes a page's readings into the list from a place on: their number, or 14, 13, 12.
@@ -46,7 +46,7 @@ pub extern "C" fn maststep_write(
     ensures says { λ r. ⌜ r ≡ packed (writeSays mode (now (list .entry)) place word) ⌝ }
     ensures leaves { λ _. ⌜ now (list .exit) ≡ writeLeaves mode (now (list .entry)) place word first ⌝ }
 {
-    line::write(list, place, mode, word, first).packed()
+    line_writer::write(list, place, mode, word, first).packed()
 }
 
 // The first attempt from a place of a capture on: its outcome, nothing at the end of the capture, or 14, 12; and where the next attempt opens.
@@ -55,7 +55,7 @@ pub extern "C" fn maststep_read(list: &[u32], place: usize, mode: u32, next: &mu
     ensures says { λ r. ⌜ r ≡ packed (readOf mode (now (list .entry)) place .says) ⌝ }
     ensures leaves { λ _. ⌜ now (next .exit) ≡ nextLeft (readOf mode (now (list .entry)) place) (now (next .entry)) ⌝ }
 {
-    let outcome = reading::read(list, place, mode);
+    let outcome = line_captures::read(list, place, mode);
     let answer = outcome.answer;
     let packed = answer.packed();
     let kind = packed / KIND;
@@ -75,5 +75,5 @@ pub extern "C" fn maststep_run(events: &[u64], answers: &mut [u64]) -> u64
     ensures says { λ r. ⌜ r ≡ packed (runSays (now (events .entry)) (now (answers .entry))) ⌝ }
     ensures leaves { λ _. ⌜ now (answers .exit) ≡ runLeaves (now (events .entry)) (now (answers .entry)) ⌝ }
 {
-    device::run(events, answers).packed()
+    port_step::run(events, answers).packed()
 }

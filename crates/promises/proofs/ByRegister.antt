@@ -4,15 +4,16 @@ use mathlib.Core.Path.{_≡_, refl, sym, subst}
 use mathlib.Core.Bool.{Bool, true, false}
 use lib.Dec.{eqb}
 use borrow.Author.Tests.{eqb-true}
-use Rattle.refusal.specs.Answers.{refused}
-use Rattle.state.specs.declared.Device.{Device}
-use Rattle.state.specs.Memory.{due}
-use Rattle.registers.specs.Registers.{registerOf, readDue, writeDue}
+use Rattle.answers.specs.Answers.{refused}
+use Rattle.answers.specs.declared.Refusal.the-variants.{Register}
+use Rattle.port_state.specs.declared.Device.{Device}
+use Rattle.port_state.specs.Memory.{due}
+use Rattle.port_registers.specs.Registers.{registerOf, readDue, writeDue}
 
 -- A number that is "not 512-519": refused, and nothing changes.
 pub record NoRegister (n : ℕ) : Type 0 where
-  pub read : (d : Device) → readDue n d ≡ due (refused 10) d
-  pub write : (value reading : ℕ) (d : Device) → writeDue n value reading d ≡ due (refused 10) d
+  pub read : (d : Device) → readDue n d ≡ due (refused Register) d
+  pub write : (value reading : ℕ) (d : Device) → writeDue n value reading d ≡ due (refused Register) d
   pub command : eqb n 512 ≡ false
   pub status : eqb n 513 ≡ false
 

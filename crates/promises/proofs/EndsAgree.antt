@@ -2,11 +2,11 @@
 use Prim.Native.Nat.{ℕ}
 use mathlib.Core.Path.{_≡_, ap, ap₂, _∙_}
 use mathlib.Core.Bool.{Bool, _&&_}
-use Rattle.refusal.specs.declared.Answer.the-variants.{Settled}
-use Rattle.resolve.specs.Rates.{rateOrder}
-use Rattle.resolve.specs.Resolving.{resolutionOf}
-use Rattle.resolve.proofs.FirstInOrder.{settled-first, none-only}
-use Rattle.resolve.proofs.Exchange.{opposite, exchanged}
+use Rattle.answers.specs.declared.Answer.the-variants.{Settled}
+use Rattle.page_resolve.specs.Rates.{rateOrder}
+use Rattle.page_resolve.specs.Resolving.{resolutionOf}
+use Rattle.page_resolve.proofs.FirstInOrder.{settled-first, none-only}
+use Rattle.page_resolve.proofs.Exchange.{opposite, exchanged}
 use Rattle.promises.specs.BothEnds.{FirstCommon, BothEnds}
 
 first-common : (own partner ability : ℕ) (master : Bool) → resolutionOf rateOrder own partner ≡ Settled ability master → FirstCommon own partner ability

@@ -5,27 +5,27 @@ use mathlib.Core.Path.{_≡_, refl, sym, ap, _∙_, subst}
 use mathlib.Core.Bool.{Bool, true, false, cond, not, _&&_, _||_, false≢true}
 use mathlib.Core.List.{List}
 use lib.Dec.{eqb, leb}
-use Rattle.refusal.specs.Answers.{Said, nothing}
-use Rattle.page.specs.Fields.{fieldOf}
-use Rattle.page.specs.declared.fields.Field.the-variants as field
-use Rattle.reader.specs.Reading.{Brings, edgeOf}
-use Rattle.state.specs.declared.State.{State}
-use Rattle.state.specs.declared.State.the-variants.{Off, Break, Ability, Ack, Complete, CheckLink, Up}
-use Rattle.state.specs.declared.Device.{Device}
-use Rattle.state.specs.Memory.{Due, due, isOff, intoBreak, intoOff, withState, withReader}
-use Rattle.page.specs.Word.{hasBit}
-use Rattle.resolve.specs.Resolving.{hasOtherSelector, isTie}
-use Rattle.registers.specs.Registers.{registerOf, readDue, commanded, writeDue}
-use Rattle.gap.specs.declared.modes.LineMode.{LineMode}
-use Rattle.timing.specs.declared.profile.Profile.{Profile}
-use Rattle.timing.specs.Timers.{runOut, inhibitOf}
-use Rattle.hearing.specs.Edges.{isChanged, isTalking, echoesOther, pageInAbility, pageInAck, pageIn, listened, edgeDue}
-use Rattle.timing.specs.Ticks.{mayOrder, orders, tickIn, tickDue}
-use Rattle.timing.specs.Sending.{counted, sentIn, sentDue}
-use Rattle.timing.specs.Reports.{hasRate, reportIn, reportDue}
-use Rattle.device.specs.declared.events.Event.{Event}
-use Rattle.device.specs.declared.events.Event.the-variants.{Edge, Tick, Sent, Report, Read, Write, Unnamed}
-use Rattle.device.specs.Steps.{stepOver}
+use Rattle.answers.specs.Answers.{Said, nothing}
+use Rattle.page_word.specs.Fields.{fieldOf}
+use Rattle.page_word.specs.declared.fields.Field.the-variants as field
+use Rattle.line_reader.specs.Reading.{Brings, edgeOf}
+use Rattle.port_state.specs.declared.State.{State}
+use Rattle.port_state.specs.declared.State.the-variants.{Off, Break, Ability, Ack, Complete, CheckLink, Up}
+use Rattle.port_state.specs.declared.Device.{Device}
+use Rattle.port_state.specs.Memory.{Due, due, isOff, intoBreak, intoOff, withState, withReader}
+use Rattle.page_word.specs.Word.{hasBit}
+use Rattle.page_resolve.specs.Resolving.{hasOtherSelector, isTie}
+use Rattle.port_registers.specs.Registers.{registerOf, readDue, commanded, writeDue}
+use Rattle.line_mode.specs.declared.modes.LineMode.{LineMode}
+use Rattle.port_timing.specs.declared.profile.Profile.{Profile}
+use Rattle.port_timing.specs.Timers.{runOut, inhibitOf}
+use Rattle.port_hearing.specs.Edges.{isChanged, isTalking, echoesOther, pageInAbility, pageInAck, pageIn, listened, edgeDue}
+use Rattle.port_timing.specs.Ticks.{mayOrder, orders, tickIn, tickDue}
+use Rattle.port_timing.specs.Sending.{counted, sentIn, sentDue}
+use Rattle.port_timing.specs.Reports.{hasRate, reportIn, reportDue}
+use Rattle.port_step.specs.declared.events.Event.{Event}
+use Rattle.port_step.specs.declared.events.Event.the-variants.{Edge, Tick, Sent, Report, Read, Write, Unnamed}
+use Rattle.port_step.specs.Steps.{stepOver}
 use Rattle.promises.specs.TwoPasts.{isBreak, restarts, readingOf}
 use Rattle.promises.proofs.ByRegister.{by-register}
 

@@ -2,12 +2,12 @@
 use Prim.Native.Nat.{ℕ}
 use mathlib.Core.Path.{_≡_, refl, sym, subst}
 use mathlib.Core.List.{List}
-use Rattle.state.specs.declared.PageRegisters.{PageRegisters}
-use Rattle.state.specs.declared.Device.{Device}
-use Rattle.state.specs.Memory.{freshDevice, intoBreak, withAdvertised}
-use Rattle.registers.specs.Registers.{registerOf, commanded, writeDue}
-use Rattle.device.specs.declared.events.Event.{Event}
-use Rattle.device.specs.Steps.{stepOver, afterAll}
+use Rattle.port_state.specs.declared.PageRegisters.{PageRegisters}
+use Rattle.port_state.specs.declared.Device.{Device}
+use Rattle.port_state.specs.Memory.{freshDevice, intoBreak, withAdvertised}
+use Rattle.port_registers.specs.Registers.{registerOf, commanded, writeDue}
+use Rattle.port_step.specs.declared.events.Event.{Event}
+use Rattle.port_step.specs.Steps.{stepOver, afterAll}
 use Rattle.promises.specs.TwoPasts.{readingOf, Same}
 use Rattle.promises.specs.AsIfNew.{switchedOn, AsIfNew}
 use Rattle.promises.proofs.TwinRuns.{same-runs}

@@ -1,23 +1,23 @@
 -- The worked link and the two worked pasts, computed from the definitions.
 use mathlib.Core.Path.{refl}
 use mathlib.Core.Bool.{xor}
-use Rattle.page.specs.Fields.{part, withPart}
-use Rattle.check_bits.specs.CheckBits.{remainder, checkList, checkBits, agrees}
-use Rattle.resolve.specs.Rates.{hasAbility}
-use Rattle.resolve.specs.Roles.{roleOf}
-use Rattle.resolve.specs.Resolving.{resolutionOf}
-use Rattle.gap.specs.Gaps.{judgementOf}
-use Rattle.line.specs.Transitions.{sentBits, hasTransition, positionsTo, transitions, readings}
-use Rattle.reader.specs.Pattern.{asks, always, byBit, isClock}
-use Rattle.reader.specs.Reading.{edgeOf, arrives, goesOn, dropsOn}
-use Rattle.registers.specs.Registers.{registerOf, statusBits, readDue, commanded, writeDue}
-use Rattle.state.specs.Memory.{wordOf}
-use Rattle.timing.specs.OwnPages.{nonceFor, ownPage, echoingPage}
-use Rattle.hearing.specs.Edges.{beyondAckAndEcho, pageInAbility, pageInAck, pageIn, listened, edgeDue}
-use Rattle.timing.specs.Ticks.{mayOrder, orders, tickDue}
-use Rattle.timing.specs.Sending.{counted, sentDue}
-use Rattle.timing.specs.Reports.{reportDue}
-use Rattle.device.specs.Steps.{stepOver, saysTo, afterAll}
+use Rattle.page_word.specs.Fields.{part, withPart}
+use Rattle.page_check_bits.specs.CheckBits.{remainder, checkList, checkBits, agrees}
+use Rattle.page_resolve.specs.Rates.{hasAbility}
+use Rattle.page_resolve.specs.Roles.{roleOf}
+use Rattle.page_resolve.specs.Resolving.{resolutionOf}
+use Rattle.line_mode.specs.Gaps.{judgementOf}
+use Rattle.line_writer.specs.Transitions.{sentBits, hasTransition, positionsTo, transitions, readings}
+use Rattle.line_reader.specs.Pattern.{asks, always, byBit, isClock}
+use Rattle.line_reader.specs.Reading.{edgeOf, arrives, goesOn, dropsOn}
+use Rattle.port_registers.specs.Registers.{registerOf, statusBits, readDue, commanded, writeDue}
+use Rattle.port_state.specs.Memory.{wordOf}
+use Rattle.port_timing.specs.OwnPages.{nonceFor, ownPage, echoingPage}
+use Rattle.port_hearing.specs.Edges.{beyondAckAndEcho, pageInAbility, pageInAck, pageIn, listened, edgeDue}
+use Rattle.port_timing.specs.Ticks.{mayOrder, orders, tickDue}
+use Rattle.port_timing.specs.Sending.{counted, sentDue}
+use Rattle.port_timing.specs.Reports.{reportDue}
+use Rattle.port_step.specs.Steps.{stepOver, saysTo, afterAll}
 use Rattle.promises.specs.FirstLink.{FirstLink}
 use Rattle.promises.specs.TwoPasts.{without6And4}
 use Rattle.promises.specs.WorkedPasts.{WorkedPasts}

@@ -4,16 +4,16 @@ use Prim.Native.Nat.{ℕ, _+_, _%_, _^_}
 use mathlib.Core.Path.{_≡_, refl, sym, ap, ap₂, _∙_, subst}
 use mathlib.Core.List.{List, [], _∷_, map}
 use native.Mathlib.Omega.{arith}
-use Rattle.resolve.specs.Rates.{rateOrder}
-use Rattle.gap.specs.Clock.{timeBetween}
-use Rattle.state.specs.declared.PageRegisters.{PageRegisters}
-use Rattle.state.specs.declared.Device.{Device}
-use Rattle.state.specs.Memory.{freshDevice, intoBreak, withAdvertised}
-use Rattle.registers.specs.Registers.{readDue}
-use Rattle.timing.specs.Timers.{lowSpeed}
-use Rattle.device.specs.declared.events.Event.{Event}
-use Rattle.device.specs.declared.events.Event.the-variants.{Edge, Tick, Sent, Report, Read, Write, Unnamed}
-use Rattle.device.specs.Steps.{saysTo, afterAll}
+use Rattle.page_resolve.specs.Rates.{rateOrder}
+use Rattle.line_mode.specs.Clock.{timeBetween}
+use Rattle.port_state.specs.declared.PageRegisters.{PageRegisters}
+use Rattle.port_state.specs.declared.Device.{Device}
+use Rattle.port_state.specs.Memory.{freshDevice, intoBreak, withAdvertised}
+use Rattle.port_registers.specs.Registers.{readDue}
+use Rattle.port_timing.specs.Timers.{lowSpeed}
+use Rattle.port_step.specs.declared.events.Event.{Event}
+use Rattle.port_step.specs.declared.events.Event.the-variants.{Edge, Tick, Sent, Report, Read, Write, Unnamed}
+use Rattle.port_step.specs.Steps.{saysTo, afterAll}
 use Rattle.promises.specs.TwoPasts.{Module, deviceOf, readingOf, difference, shiftedBy, compared, comparedValue, orderedPages, Same, NoPageOutlivesItsLink}
 use Rattle.promises.proofs.Twins.{twin}
 use Rattle.promises.proofs.TwinRuns.{exact-says, exact-value, same-runs}

@@ -4,13 +4,13 @@ use mathlib.Core.Path.{_≡_, refl, sym, ap, _∙_, subst}
 use mathlib.Core.Bool.{Bool, true, false, cond, xor}
 use mathlib.Core.List.{List, [], _∷_, _++_}
 use lib.ListN.{length, replicate}
-use Rattle.page.specs.Word.{bitsOf}
-use Rattle.check_bits.specs.CheckBits.{plus, checkList}
-use Rattle.check_bits.proofs.Remainders.{scaled, times, quotient, divisible, no-other}
-use Rattle.check_bits.proofs.Strength.{differing}
-use Rattle.gap.specs.Delimiters.{among}
-use Rattle.line.specs.Transitions.{transitions}
-use Rattle.line.proofs.Damage.{hasAt, pages-apart}
+use Rattle.page_word.specs.Word.{bitsOf}
+use Rattle.page_check_bits.specs.CheckBits.{plus, checkList}
+use Rattle.page_check_bits.proofs.Remainders.{scaled, times, quotient, divisible, no-other}
+use Rattle.page_check_bits.proofs.Strength.{differing}
+use Rattle.line_mode.specs.Delimiters.{among}
+use Rattle.line_writer.specs.Transitions.{transitions}
+use Rattle.line_writer.proofs.Damage.{hasAt, pages-apart}
 use Rattle.promises.specs.SmallDamage.{multipleBy, changedBelow, FarApart, SmallDamage}
 
 same-multiple : (q : List Bool) → multipleBy q ≡ times q

@@ -7,33 +7,34 @@ use native.Mathlib.Omega.{arith}
 use lib.Dec.{leb, ltb}
 use lib.ListN.{length, drop}
 use borrow.Author.Tests.{leb-true, le-leb, lt-ltb}
-use Rattle.refusal.specs.Answers.{Said, nothing, refused, pageRead, number}
-use Rattle.page.proofs.ComputedTest.{and-left, and-right}
-use Rattle.gap.specs.declared.modes.LineMode.{LineMode}
-use Rattle.gap.specs.declared.modes.Found.{Found}
-use Rattle.gap.specs.declared.modes.Found.the-variants.{Known}
-use Rattle.gap.specs.declared.modes.Judgement.{Judgement}
-use Rattle.gap.specs.declared.modes.Judgement.the-variants.{Positions, Quiet, Unfit}
-use Rattle.gap.specs.Clock.{timeBetween}
-use Rattle.gap.specs.Delimiters.{hsmDelimiter, lsmDelimiter}
-use Rattle.gap.specs.Modes.{hsmMode, lsmMode, modeOf, saysBy}
-use Rattle.gap.specs.Gaps.{within, judgementOf}
-use Rattle.gap.proofs.Windows.{Apart, Near, hsm-apart, lsm-apart, counts-quiet}
-use Rattle.line.specs.Transitions.{transitions, sentBits, readings, edgeCount}
-use Rattle.line.specs.Writing.{saysIn, writeSays}
-use Rattle.reader.specs.declared.reader.Reader.{Reader}
-use Rattle.reader.specs.declared.reader.Reader.the-variants.{Fresh, Open, Dropping}
-use Rattle.reader.specs.Reading.{Brings, bring, dropsOn, goesOn, edgeOf, saidAlong, readerAfter}
-use Rattle.reading.specs.Captures.{Attempt, ends, isOpen, readIn, readBy, readOf}
-use Rattle.reading.proofs.EdgeRuns.{gapsAfter, gaps, edgeGaps, Sends, WasSent, Begins}
-use Rattle.reading.proofs.OnlyPages as only
-use Rattle.reading.proofs.SentGaps.{afterClock, transitions-listed}
-use Rattle.reading.proofs.SinceOpened.{after-append, startsAt, SaidPage}
-use Rattle.reading.proofs.ReadTheorem.{ReadsBack, reads-back}
-use Rattle.reading.proofs.ReadCalls as calls
-use Rattle.reading.proofs.WriteThenRead.{written-sends, write-then-read}
-use Rattle.reading.proofs.Walk as walk
-use Rattle.listing_text.specs.Listing.{attemptsFrom}
+use Rattle.answers.specs.Answers.{Said, nothing, refused, pageRead, number}
+use Rattle.answers.specs.declared.Refusal.the-variants.{Cut}
+use Rattle.page_word.proofs.ComputedTest.{and-left, and-right}
+use Rattle.line_mode.specs.declared.modes.LineMode.{LineMode}
+use Rattle.line_mode.specs.declared.modes.Found.{Found}
+use Rattle.line_mode.specs.declared.modes.Found.the-variants.{Known}
+use Rattle.line_mode.specs.declared.modes.Judgement.{Judgement}
+use Rattle.line_mode.specs.declared.modes.Judgement.the-variants.{Positions, Quiet, Unfit}
+use Rattle.line_mode.specs.Clock.{timeBetween}
+use Rattle.line_mode.specs.Delimiters.{hsmDelimiter, lsmDelimiter}
+use Rattle.line_mode.specs.Modes.{hsmMode, lsmMode, modeOf, saysBy}
+use Rattle.line_mode.specs.Gaps.{within, judgementOf}
+use Rattle.line_mode.proofs.Windows.{Apart, Near, hsm-apart, lsm-apart, counts-quiet}
+use Rattle.line_writer.specs.Transitions.{transitions, sentBits, readings, edgeCount}
+use Rattle.line_writer.specs.Writing.{saysIn, writeSays}
+use Rattle.line_reader.specs.declared.reader.Reader.{Reader}
+use Rattle.line_reader.specs.declared.reader.Reader.the-variants.{Fresh, Open, Dropping}
+use Rattle.line_reader.specs.Reading.{Brings, bring, dropsOn, goesOn, edgeOf, saidAlong, readerAfter}
+use Rattle.line_captures.specs.Captures.{Attempt, ends, isOpen, readIn, readBy, readOf}
+use Rattle.line_captures.proofs.EdgeRuns.{gapsAfter, gaps, edgeGaps, Sends, WasSent, Begins}
+use Rattle.line_captures.proofs.OnlyPages as only
+use Rattle.line_captures.proofs.SentGaps.{afterClock, transitions-listed}
+use Rattle.line_captures.proofs.SinceOpened.{after-append, startsAt, SaidPage}
+use Rattle.line_captures.proofs.ReadTheorem.{ReadsBack, reads-back}
+use Rattle.line_captures.proofs.ReadCalls as calls
+use Rattle.line_captures.proofs.WriteThenRead.{written-sends, write-then-read}
+use Rattle.line_captures.proofs.Walk as walk
+use Rattle.bench_listing.specs.Listing.{attemptsFrom}
 use Rattle.promises.specs.ReadingBack.{fitsBehind, fits, Carries, atTheLast, opensAfter, EndsWith, BeginsWith, ReadingBack}
 
 -- Edges in the windows: a test here, a relation there.
@@ -115,7 +116,7 @@ last-at m (Open at last bits) x = by (only.edge-cases (m .slow) at bits x (judge
 
 -- and an edge that follows quiet opens an attempt, whatever the reader held.
 quiet-opens : (m : LineMode) → Apart m → (r : Reader) (last x : ℕ) → LastAt last r → m .quiet ≤ timeBetween x last
-    → edgeOf m r x ≡ bring (cond (isOpen r) (refused 2) nothing) (Open 1 x 0)
+    → edgeOf m r x ≡ bring (cond (isOpen r) (refused Cut) nothing) (Open 1 x 0)
 unfolding edgeOf dropsOn
 quiet-opens m apart r last x (opened at bits) q = reads-back m apart .cut at last bits x q
 quiet-opens m apart r last x dropped q = rw (counts-quiet m apart (timeBetween x last) q)
@@ -187,11 +188,11 @@ reading-back mode m known apart clock =
     back : ReadsBack m
     back = reads-back m apart
 
-    after : (r : Reader) (x w : ℕ) (edges : List ℕ) → edgeOf m r x ≡ bring (cond (isOpen r) (refused 2) nothing) (Open 1 x 0) → w < 2 ^ 48 → Carries m w (x ∷ edges)
-        → saidAlong m r (x ∷ edges) ≡ cond (isOpen r) (refused 2) nothing ∷ atTheLast edges (pageRead w)
+    after : (r : Reader) (x w : ℕ) (edges : List ℕ) → edgeOf m r x ≡ bring (cond (isOpen r) (refused Cut) nothing) (Open 1 x 0) → w < 2 ^ 48 → Carries m w (x ∷ edges)
+        → saidAlong m r (x ∷ edges) ≡ cond (isOpen r) (refused Cut) nothing ∷ atTheLast edges (pageRead w)
     after r x w edges e word carried =
         ap (λ (b : Brings). b .says ∷ saidAlong m (b .reader) edges) e
-        ∙ ap (λ (l : List Said). cond (isOpen r) (refused 2) nothing ∷ l)
+        ∙ ap (λ (l : List Said). cond (isOpen r) (refused Cut) nothing ∷ l)
         (back .opened w x edges word (carries-sends m w (x ∷ edges) carried) .said)
 
     since : (past : List ℕ) (x w : ℕ) → SaidPage m past x w → EndsWith m w (past ++ (x ∷ []))

@@ -3,52 +3,55 @@ use Prim.Native.Nat.{ℕ}
 use mathlib.Core.Path.{_≡_, refl, sym, ap, _∙_}
 use mathlib.Core.Bool.{false, xor}
 use mathlib.Core.List.{List, _++_}
-use Rattle.refusal.specs.Answers.{refused}
-use Rattle.page.specs.Fields.{part, withPart}
-use Rattle.check_bits.specs.CheckBits.{remainder, checkList, checkBits, agrees}
-use Rattle.resolve.specs.Rates.{hasAbility}
-use Rattle.resolve.specs.Roles.{roleOf}
-use Rattle.resolve.specs.Resolving.{resolutionOf}
-use Rattle.gap.specs.Modes.{modeOf}
-use Rattle.gap.specs.Gaps.{judgementOf}
-use Rattle.line.specs.Transitions.{sentBits, hasTransition, positionsTo, transitions, readings, edgeCount}
-use Rattle.line.specs.Writing.{saysIn, leavesIn, writeSays, writeLeaves}
-use Rattle.reader.specs.declared.reader.Reader.{Reader}
-use Rattle.reader.specs.declared.reader.Reader.the-variants.{Dropping}
-use Rattle.reader.specs.Pattern.{asks, always, byBit, isClock}
-use Rattle.reader.specs.Reading.{edgeOf, arrives, goesOn, dropsOn}
-use Rattle.reading.specs.Captures.{readIn, readOf}
-use Rattle.state.specs.declared.State.the-variants.{Ack}
-use Rattle.state.specs.declared.Talk.{Talk}
-use Rattle.state.specs.declared.Device.{Device}
-use Rattle.state.specs.Memory.{Due, due, freshDevice, withReader, wordOf}
-use Rattle.registers.specs.Registers.{registerOf, readDue, commanded, writeDue}
-use Rattle.timing.specs.OwnPages.{nonceFor, ownPage, echoingPage}
-use Rattle.hearing.specs.Edges.{beyondAckAndEcho, pageInAbility, pageInAck, pageIn, listened, edgeDue}
-use Rattle.timing.specs.Ticks.{mayOrder, orders, tickDue}
-use Rattle.timing.specs.Sending.{counted, sentDue}
-use Rattle.timing.specs.Reports.{reportDue}
-use Rattle.device.specs.declared.events.Event.{Event}
-use Rattle.device.specs.declared.events.Event.the-variants.{Sent, Read, Write}
-use Rattle.device.specs.Steps.{stepOver, stepDue, saysTo, afterAll}
-use Rattle.device.specs.Runs.{eventOf, eventsOf, runSays, runLeaves}
-use Rattle.listing_text.specs.Listing.{refusedLine, listing}
+use Rattle.answers.specs.Answers.{refused}
+use Rattle.answers.specs.declared.Refusal.{Refusal}
+use Rattle.answers.specs.declared.Refusal.the-variants.{Register, Turn}
+use Rattle.page_word.specs.Fields.{part, withPart}
+use Rattle.page_check_bits.specs.CheckBits.{remainder, checkList, checkBits, agrees}
+use Rattle.page_resolve.specs.Rates.{hasAbility}
+use Rattle.page_resolve.specs.Roles.{roleOf}
+use Rattle.page_resolve.specs.Resolving.{resolutionOf}
+use Rattle.line_mode.specs.Modes.{modeOf}
+use Rattle.line_mode.specs.Gaps.{judgementOf}
+use Rattle.line_writer.specs.Transitions.{sentBits, hasTransition, positionsTo, transitions, readings, edgeCount}
+use Rattle.line_writer.specs.Writing.{saysIn, leavesIn, writeSays, writeLeaves}
+use Rattle.line_reader.specs.declared.reader.Reader.{Reader}
+use Rattle.line_reader.specs.declared.reader.Reader.the-variants.{Dropping}
+use Rattle.line_reader.specs.Pattern.{asks, always, byBit, isClock}
+use Rattle.line_reader.specs.Reading.{edgeOf, arrives, goesOn, dropsOn}
+use Rattle.line_captures.specs.Captures.{readIn, readOf}
+use Rattle.port_state.specs.declared.State.the-variants.{Ack}
+use Rattle.port_state.specs.declared.Talk.{Talk}
+use Rattle.port_state.specs.declared.Device.{Device}
+use Rattle.port_state.specs.Memory.{Due, due, freshDevice, withReader, wordOf}
+use Rattle.port_registers.specs.Registers.{registerOf, readDue, commanded, writeDue}
+use Rattle.port_timing.specs.OwnPages.{nonceFor, ownPage, echoingPage}
+use Rattle.port_hearing.specs.Edges.{beyondAckAndEcho, pageInAbility, pageInAck, pageIn, listened, edgeDue}
+use Rattle.port_timing.specs.Ticks.{mayOrder, orders, tickDue}
+use Rattle.port_timing.specs.Sending.{counted, sentDue}
+use Rattle.port_timing.specs.Reports.{reportDue}
+use Rattle.port_step.specs.declared.events.Event.{Event}
+use Rattle.port_step.specs.declared.events.Event.the-variants.{Sent, Read, Write}
+use Rattle.port_step.specs.Steps.{stepOver, stepDue, saysTo, afterAll}
+use Rattle.port_step.specs.Runs.{eventOf, eventsOf, runSays, runLeaves}
+use Rattle.bench_listing.specs.Listing.{refusedLine, listing}
 use Rattle.promises.specs.FirstLink.{pageFrom, toAbility, toAck}
 use Rattle.promises.specs.Refusals.{Kept, EachRefusal}
 
 -- An event that is refused and changes nothing, whatever has come before.
-kept : (past : List Event) (event : Event) (n : ℕ) → stepDue event (afterAll freshDevice past) ≡ due (refused n) (afterAll freshDevice past) → Kept past event n
-kept past event n e = record { says = ap (λ (x : Due). x .says) e; kept = ap (λ (x : Due). x .device) e }
+kept : (past : List Event) (event : Event) (refusal : Refusal) → stepDue event (afterAll freshDevice past) ≡ due (refused refusal) (afterAll freshDevice past)
+    → Kept past event refusal
+kept past event refusal e = record { says = ap (λ (x : Due). x .says) e; kept = ap (λ (x : Due). x .device) e }
 
-no-register-read : (reading : ℕ) (d : Device) → stepDue (Read reading 520) d ≡ due (refused 10) d
+no-register-read : (reading : ℕ) (d : Device) → stepDue (Read reading 520) d ≡ due (refused Register) d
 unfolding stepOver readDue registerOf
 no-register-read reading d = refl
 
-no-register-written : (reading : ℕ) (d : Device) → stepDue (Write reading 511 1) d ≡ due (refused 10) d
+no-register-written : (reading : ℕ) (d : Device) → stepDue (Write reading 511 1) d ≡ due (refused Register) d
 unfolding stepOver writeDue registerOf
 no-register-written reading d = refl
 
-nothing-out : (reading : ℕ) (d : Device) → d .state ≡ Ack → d .talk .out ≡ false → stepDue (Sent reading) d ≡ due (refused 11) d
+nothing-out : (reading : ℕ) (d : Device) → d .state ≡ Ack → d .talk .out ≡ false → stepDue (Sent reading) d ≡ due (refused Turn) d
 unfolding stepOver sentDue
 nothing-out reading d state out = rw (state, out)
 
@@ -90,11 +93,11 @@ each-refusal =
       echo = record { said = refl; left = refl };
       none = record { said = refl; left = refl };
       roles = record { said = refl; left = refl };
-      register-read = kept toAck (Read 8200000 520) 10 (no-register-read 8200000 (afterAll freshDevice toAck));
-      register-written = kept toAck (Write 8200000 511 1) 10 (no-register-written 8200000 (afterAll freshDevice toAck));
+      register-read = kept toAck (Read 8200000 520) Register (no-register-read 8200000 (afterAll freshDevice toAck));
+      register-written = kept toAck (Write 8200000 511 1) Register (no-register-written 8200000 (afterAll freshDevice toAck));
       turn-off = record { says = refl; kept = refl };
       turn-break = record { says = refl; kept = refl };
-      turn-no-page = kept toAck (Sent 8200000) 11 (nothing-out 8200000 (afterAll freshDevice toAck) refl refl);
+      turn-no-page = kept toAck (Sent 8200000) Turn (nothing-out 8200000 (afterAll freshDevice toAck) refl refl);
       room-read = refl;
       room-past-end = record { says = refl; kept = refl };
       room-fewer = record { says = refl; kept = refl };

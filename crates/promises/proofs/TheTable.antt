@@ -1,11 +1,11 @@
 -- P1-P14, from the examples that the crates compute.
 use mathlib.Core.Path.{ap}
-use Rattle.check_bits.proofs.CheckTheorem.{check-examples}
-use Rattle.line.proofs.LineExamples.{line-table}
-use Rattle.resolve.proofs.ResolveExamples.{resolve-table}
-use Rattle.state.specs.Memory.{Due}
-use Rattle.device.specs.Steps.{stepOver}
-use Rattle.device.proofs.DeviceExamples as device-examples
+use Rattle.page_check_bits.proofs.CheckTheorem.{check-examples}
+use Rattle.line_writer.proofs.LineExamples.{line-table}
+use Rattle.page_resolve.proofs.ResolveExamples.{resolve-table}
+use Rattle.port_state.specs.Memory.{Due}
+use Rattle.port_step.specs.Steps.{stepOver}
+use Rattle.port_step.proofs.DeviceExamples as device-examples
 use Rattle.promises.specs.Table.{Table}
 
 pub table : Table

@@ -3,19 +3,20 @@ use Prim.Native.Nat.{ℕ}
 use mathlib.Core.Path.{refl, ap}
 use mathlib.Core.Bool.{not, _&&_}
 use lib.Dec.{eqb}
-use Rattle.refusal.specs.Answers.{nothing, refused, pageRead}
-use Rattle.page.specs.Fields.{fieldOf}
-use Rattle.page.specs.declared.fields.Field.the-variants as field
-use Rattle.resolve.specs.Resolving.{hasOtherSelector, isTie}
-use Rattle.reader.specs.Reading.{Brings, edgeOf}
-use Rattle.reader.proofs.ClockShift.{bringsLater, edge-later}
-use Rattle.state.specs.declared.State.{State}
-use Rattle.state.specs.declared.State.the-variants.{Off, Break, Ability, Ack, Complete, CheckLink, Up}
-use Rattle.state.specs.declared.Flags.{Flags}
-use Rattle.state.specs.declared.Device.{Device}
-use Rattle.state.specs.Memory.{withState, withReader}
-use Rattle.gap.specs.declared.modes.LineMode.{LineMode}
-use Rattle.hearing.specs.Edges.{isChanged, isTalking, flagsBy, echoesOther, pageInAbility, pageInAck, pageIn, listened, edgeDue}
+use Rattle.answers.specs.Answers.{nothing, refused, pageRead}
+use Rattle.answers.specs.declared.Refusal.the-variants.{Selector, Tie, Changed, Echo}
+use Rattle.page_word.specs.Fields.{fieldOf}
+use Rattle.page_word.specs.declared.fields.Field.the-variants as field
+use Rattle.page_resolve.specs.Resolving.{hasOtherSelector, isTie}
+use Rattle.line_reader.specs.Reading.{Brings, edgeOf}
+use Rattle.line_reader.proofs.ClockShift.{bringsLater, edge-later}
+use Rattle.port_state.specs.declared.State.{State}
+use Rattle.port_state.specs.declared.State.the-variants.{Off, Break, Ability, Ack, Complete, CheckLink, Up}
+use Rattle.port_state.specs.declared.Flags.{Flags}
+use Rattle.port_state.specs.declared.Device.{Device}
+use Rattle.port_state.specs.Memory.{withState, withReader}
+use Rattle.line_mode.specs.declared.modes.LineMode.{LineMode}
+use Rattle.port_hearing.specs.Edges.{isChanged, isTalking, flagsBy, echoesOther, pageInAbility, pageInAck, pageIn, listened, edgeDue}
 use Rattle.promises.proofs.Twins.{twin, Alike, alike-if, kept, saying-same}
 use Rattle.promises.specs.TwoPasts.{shifted}
 
@@ -25,16 +26,16 @@ module _ (δ : ℕ) (g : Flags) (reading : ℕ) where
       → Alike δ (d .flags) g (pageInAbility word reading (withState Ability d)) (pageInAbility word (shifted δ reading) (twin δ g (withState Ability d)))
   unfolding pageInAbility
   in-ability word d =
-      alike-if (hasOtherSelector word) (saying-same (refused 4) kept)
-      (alike-if (isTie (d .talk .own) word) (saying-same (refused 5) kept) (saying-same (pageRead word) kept))
+      alike-if (hasOtherSelector word) (saying-same (refused Selector) kept)
+      (alike-if (isTie (d .talk .own) word) (saying-same (refused Tie) kept) (saying-same (pageRead word) kept))
 
   in-ack : (word : ℕ) (d : Device)
       → Alike δ (d .flags) g (pageInAck word reading (withState Ack d)) (pageInAck word (shifted δ reading) (twin δ g (withState Ack d)))
   unfolding pageInAck
   in-ack word d =
-      alike-if (isChanged word (d .talk .held)) (saying-same (refused 6) kept)
+      alike-if (isChanged word (d .talk .held)) (saying-same (refused Changed) kept)
       (alike-if (eqb (fieldOf field.Ack word) 0) (saying-same (pageRead word) kept)
-      (alike-if (echoesOther (d .talk .own) word) (saying-same (refused 7) kept)
+      (alike-if (echoesOther (d .talk .own) word) (saying-same (refused Echo) kept)
       (saying-same (pageRead word) (record { device = refl; flags = λ h. ap (flagsBy word) h }))))
 
   in-state : (s : State) (word : ℕ) (d : Device)

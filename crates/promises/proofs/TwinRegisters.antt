@@ -4,12 +4,13 @@ use Prim.Native.Nat.{ℕ}
 use mathlib.Core.Path.{_≡_, refl, sym, ap, _∙_}
 use mathlib.Core.Bool.{Bool, true, false, true≢false, _||_}
 use lib.Dec.{eqb}
-use Rattle.refusal.specs.Answers.{nothing, refused, registerValue}
-use Rattle.page.specs.Word.{hasBit}
-use Rattle.state.specs.declared.Flags.{Flags}
-use Rattle.state.specs.declared.Device.{Device}
-use Rattle.state.specs.Memory.{Due, isOff, isUp}
-use Rattle.registers.specs.Registers.{registerOf, controlValue, statusBits, readDue, commanded, writeDue}
+use Rattle.answers.specs.Answers.{nothing, refused, registerValue}
+use Rattle.answers.specs.declared.Refusal.the-variants.{Register}
+use Rattle.page_word.specs.Word.{hasBit}
+use Rattle.port_state.specs.declared.Flags.{Flags}
+use Rattle.port_state.specs.declared.Device.{Device}
+use Rattle.port_state.specs.Memory.{Due, isOff, isUp}
+use Rattle.port_registers.specs.Registers.{registerOf, controlValue, statusBits, readDue, commanded, writeDue}
 use Rattle.promises.specs.TwoPasts.{shifted, without6And4}
 use Rattle.promises.proofs.ByRegister.{by-register}
 use Rattle.promises.proofs.Twins.{twin, Twins, Alike, twins-if, kept, saying-same}
@@ -60,7 +61,7 @@ module _ (δ : ℕ) (g : Flags) where
       (λ other. saying-same (registerValue (d .partner .low)) kept)
       (λ other. saying-same (registerValue (d .partner .middle)) kept)
       (λ other. saying-same (registerValue (d .partner .high)) kept)
-      (λ m no other. rw (no .read d, no .read (twin δ g d)) (saying-same (refused 10) kept))
+      (λ m no other. rw (no .read d, no .read (twin δ g d)) (saying-same (refused Register) kept))
       n
 
   -- A write. A device that is made fresh has no flags; all else keeps them.
@@ -84,7 +85,7 @@ module _ (δ : ℕ) (g : Flags) where
       (saying-same nothing kept)
       (saying-same nothing kept)
       (saying-same nothing kept)
-      (λ m no. rw (no .write value reading d, no .write value (shifted δ reading) (twin δ g d)) (saying-same (refused 10) kept))
+      (λ m no. rw (no .write value reading d, no .write value (shifted δ reading) (twin δ g d)) (saying-same (refused Register) kept))
       n
 
 -- Where the flags are the same, every read answers the same.

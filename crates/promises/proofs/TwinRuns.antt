@@ -6,14 +6,14 @@ use mathlib.Core.Bool.{Bool, true, false, cond, not, _&&_, _||_}
 use mathlib.Core.List.{List, [], _∷_, map}
 use lib.Dec.{eqb}
 use borrow.Author.Tests.{eqb-true}
-use Rattle.refusal.specs.Answers.{Said}
-use Rattle.resolve.specs.Rates.{rateOrder}
-use Rattle.state.specs.declared.Flags.{Flags}
-use Rattle.state.specs.declared.Device.{Device}
-use Rattle.registers.specs.Registers.{readDue}
-use Rattle.timing.specs.Timers.{lowSpeed}
-use Rattle.device.specs.declared.events.Event.{Event}
-use Rattle.device.specs.Steps.{stepDue, saysTo, afterAll}
+use Rattle.answers.specs.Answers.{Said}
+use Rattle.page_resolve.specs.Rates.{rateOrder}
+use Rattle.port_state.specs.declared.Flags.{Flags}
+use Rattle.port_state.specs.declared.Device.{Device}
+use Rattle.port_registers.specs.Registers.{readDue}
+use Rattle.port_timing.specs.Timers.{lowSpeed}
+use Rattle.port_step.specs.declared.events.Event.{Event}
+use Rattle.port_step.specs.Steps.{stepDue, saysTo, afterAll}
 use Rattle.promises.specs.TwoPasts.{shiftedBy, without6And4, readsStatus, compared, statusWasRead, comparedValue, orderedPages, Same}
 use Rattle.promises.proofs.Twins.{twin}
 use Rattle.promises.proofs.TwinRegisters.{status-says, read-alike, read-same}

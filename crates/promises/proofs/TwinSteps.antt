@@ -4,15 +4,15 @@ use mathlib.Core.Path.{_≡_, refl, sym, ap, _∙_, subst}
 use mathlib.Core.Bool.{Bool, true, false, false≢true}
 use mathlib.Core.List.{List}
 use borrow.Author.Tests.{eqb-true}
-use Rattle.refusal.specs.Answers.{nothing}
-use Rattle.state.specs.declared.Flags.{Flags}
-use Rattle.state.specs.declared.Device.{Device}
-use Rattle.state.specs.Memory.{Due}
-use Rattle.registers.specs.Registers.{registerOf, readDue}
-use Rattle.timing.specs.declared.profile.Profile.{Profile}
-use Rattle.device.specs.declared.events.Event.{Event}
-use Rattle.device.specs.declared.events.Event.the-variants.{Edge, Tick, Sent, Report, Read, Write, Unnamed}
-use Rattle.device.specs.Steps.{stepOver}
+use Rattle.answers.specs.Answers.{nothing}
+use Rattle.port_state.specs.declared.Flags.{Flags}
+use Rattle.port_state.specs.declared.Device.{Device}
+use Rattle.port_state.specs.Memory.{Due}
+use Rattle.port_registers.specs.Registers.{registerOf, readDue}
+use Rattle.port_timing.specs.declared.profile.Profile.{Profile}
+use Rattle.port_step.specs.declared.events.Event.{Event}
+use Rattle.port_step.specs.declared.events.Event.the-variants.{Edge, Tick, Sent, Report, Read, Write, Unnamed}
+use Rattle.port_step.specs.Steps.{stepOver}
 use Rattle.promises.specs.TwoPasts.{shiftedBy, readsStatus, without6And4}
 use Rattle.promises.proofs.Twins.{twin, Alike, kept, saying-same}
 use Rattle.promises.proofs.TwinEdges.{edge-alike}

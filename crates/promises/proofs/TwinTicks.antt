@@ -5,23 +5,24 @@ use mathlib.Core.Path.{_≡_, refl, ap, ap₂, _∙_}
 use mathlib.Core.Bool.{Bool, cond, not, _&&_}
 use mathlib.Core.List.{List}
 use lib.Dec.{leb, ltb}
-use Rattle.refusal.specs.Answers.{said, nothing, refused, pageOrdered}
-use Rattle.resolve.specs.Resolving.{resolutionOf}
-use Rattle.reader.specs.declared.reader.Reader.{Reader}
-use Rattle.reader.specs.declared.reader.Reader.the-variants.{Fresh, Open, Dropping}
-use Rattle.reader.proofs.ClockShift.{later, time-shifted}
-use Rattle.state.specs.declared.State.{State}
-use Rattle.state.specs.declared.State.the-variants.{Off, Break, Ability, Ack, Complete, CheckLink, Up}
-use Rattle.state.specs.declared.Flags.{Flags}
-use Rattle.state.specs.declared.Talk.{Talk}
-use Rattle.state.specs.declared.Device.{Device}
-use Rattle.state.specs.Memory.{withState}
-use Rattle.timing.specs.declared.profile.Profile.{Profile}
-use Rattle.timing.specs.OwnPages.{echoingPage}
-use Rattle.timing.specs.Timers.{runOut, inhibitOf}
-use Rattle.timing.specs.Ticks.{holdsBack, mayOrder, orders, tickIn, tickDue}
-use Rattle.timing.specs.Sending.{counted, sentIn, sentDue}
-use Rattle.timing.specs.Reports.{hasRate, reportIn, reportDue}
+use Rattle.answers.specs.Answers.{said, nothing, refused, pageOrdered}
+use Rattle.answers.specs.declared.Refusal.the-variants.{Turn}
+use Rattle.page_resolve.specs.Resolving.{resolutionOf}
+use Rattle.line_reader.specs.declared.reader.Reader.{Reader}
+use Rattle.line_reader.specs.declared.reader.Reader.the-variants.{Fresh, Open, Dropping}
+use Rattle.line_reader.proofs.ClockShift.{later, time-shifted}
+use Rattle.port_state.specs.declared.State.{State}
+use Rattle.port_state.specs.declared.State.the-variants.{Off, Break, Ability, Ack, Complete, CheckLink, Up}
+use Rattle.port_state.specs.declared.Flags.{Flags}
+use Rattle.port_state.specs.declared.Talk.{Talk}
+use Rattle.port_state.specs.declared.Device.{Device}
+use Rattle.port_state.specs.Memory.{withState}
+use Rattle.port_timing.specs.declared.profile.Profile.{Profile}
+use Rattle.port_timing.specs.OwnPages.{echoingPage}
+use Rattle.port_timing.specs.Timers.{runOut, inhibitOf}
+use Rattle.port_timing.specs.Ticks.{holdsBack, mayOrder, orders, tickIn, tickDue}
+use Rattle.port_timing.specs.Sending.{counted, sentIn, sentDue}
+use Rattle.port_timing.specs.Reports.{hasRate, reportIn, reportDue}
 use Rattle.promises.proofs.Twins.{talkIn, twin, Twins, Alike, twins-if, alike-if, twins-by, alike-by, kept, saying-same}
 use Rattle.promises.specs.TwoPasts.{shifted}
 
@@ -83,16 +84,16 @@ module _ (δ : ℕ) (g : Flags) (reading : ℕ) where
   sent-in : (s : State) (order : List ℕ) (d : Device)
       → Alike δ (d .flags) g (sentIn s order reading (withState s d)) (sentIn s order (shifted δ reading) (twin δ g (withState s d)))
   unfolding counted
-  sent-in Off order d = saying-same (refused 11) kept
-  sent-in Break order d = saying-same (refused 11) kept
-  sent-in Ability order d = alike-if (d .talk .out) (saying-same nothing kept) (saying-same (refused 11) kept)
-  sent-in Ack order d = alike-if (d .talk .out) (saying-same nothing kept) (saying-same (refused 11) kept)
+  sent-in Off order d = saying-same (refused Turn) kept
+  sent-in Break order d = saying-same (refused Turn) kept
+  sent-in Ability order d = alike-if (d .talk .out) (saying-same nothing kept) (saying-same (refused Turn) kept)
+  sent-in Ack order d = alike-if (d .talk .out) (saying-same nothing kept) (saying-same (refused Turn) kept)
   sent-in Complete order d =
       alike-if (d .talk .out)
       (alike-if (leb 2 (d .talk .count)) (saying-same (said (resolutionOf order (d .talk .own) (d .talk .held))) kept) (saying-same nothing kept))
-      (saying-same (refused 11) kept)
-  sent-in CheckLink order d = alike-if (d .talk .out) (saying-same nothing kept) (saying-same (refused 11) kept)
-  sent-in Up order d = alike-if (d .talk .out) (saying-same nothing kept) (saying-same (refused 11) kept)
+      (saying-same (refused Turn) kept)
+  sent-in CheckLink order d = alike-if (d .talk .out) (saying-same nothing kept) (saying-same (refused Turn) kept)
+  sent-in Up order d = alike-if (d .talk .out) (saying-same nothing kept) (saying-same (refused Turn) kept)
 
   pub sent-alike : (order : List ℕ) (d : Device) → Alike δ (d .flags) g (sentDue order reading d) (sentDue order (shifted δ reading) (twin δ g d))
   unfolding sentDue

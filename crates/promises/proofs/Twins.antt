@@ -3,14 +3,14 @@
 use Prim.Native.Nat.{ℕ}
 use mathlib.Core.Path.{_≡_, refl, sym, subst}
 use mathlib.Core.Bool.{Bool, true, false, cond}
-use Rattle.refusal.specs.Answers.{Said}
-use Rattle.state.specs.declared.State.{State}
-use Rattle.state.specs.declared.State.the-variants.{Off, Break, Ability, Ack, Complete, CheckLink, Up}
-use Rattle.state.specs.declared.Flags.{Flags}
-use Rattle.state.specs.declared.Talk.{Talk}
-use Rattle.state.specs.declared.Device.{Device}
-use Rattle.state.specs.Memory.{Due, due}
-use Rattle.reader.proofs.ClockShift.{later}
+use Rattle.answers.specs.Answers.{Said}
+use Rattle.port_state.specs.declared.State.{State}
+use Rattle.port_state.specs.declared.State.the-variants.{Off, Break, Ability, Ack, Complete, CheckLink, Up}
+use Rattle.port_state.specs.declared.Flags.{Flags}
+use Rattle.port_state.specs.declared.Talk.{Talk}
+use Rattle.port_state.specs.declared.Device.{Device}
+use Rattle.port_state.specs.Memory.{Due, due}
+use Rattle.line_reader.proofs.ClockShift.{later}
 use Rattle.promises.specs.TwoPasts.{shifted}
 
 -- A mark's or timer's reading, by state.

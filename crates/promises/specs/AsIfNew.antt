@@ -2,11 +2,11 @@
 -- 7.513, "Page received" and "Remote fault", until they are read.
 use Prim.Native.Nat.{ℕ, _^_}
 use mathlib.Core.List.{List, [], _∷_}
-use Rattle.state.specs.declared.PageRegisters.{PageRegisters}
-use Rattle.state.specs.Memory.{freshDevice}
-use Rattle.device.specs.declared.events.Event.{Event}
-use Rattle.device.specs.declared.events.Event.the-variants.{Write}
-use Rattle.device.specs.Steps.{afterAll}
+use Rattle.port_state.specs.declared.PageRegisters.{PageRegisters}
+use Rattle.port_state.specs.Memory.{freshDevice}
+use Rattle.port_step.specs.declared.events.Event.{Event}
+use Rattle.port_step.specs.declared.events.Event.the-variants.{Write}
+use Rattle.port_step.specs.Steps.{afterAll}
 use Rattle.promises.specs.TwoPasts.{Module, deviceOf, readingOf, Same}
 
 -- A new device: fresh, then 7.514-7.516 are written and it is enabled, all at one reading. It has never heard a page.

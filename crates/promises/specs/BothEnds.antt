@@ -3,11 +3,11 @@ use Prim.Native.Nat.{ℕ, _<_}
 use mathlib.Core.Path.{_≡_}
 use mathlib.Core.Bool.{Bool, true, false, not}
 use lib.ListN.{length, getD}
-use Rattle.refusal.specs.declared.Answer.the-variants.{Refused, Settled}
-use Rattle.refusal.specs.declared.Refusal.{Refusal}
-use Rattle.refusal.specs.declared.Refusal.the-variants.{None}
-use Rattle.resolve.specs.Rates.{rateOrder, isCommon}
-use Rattle.resolve.specs.Resolving.{resolutionOf}
+use Rattle.answers.specs.declared.Answer.the-variants.{Refused, Settled}
+use Rattle.answers.specs.declared.Refusal.{Refusal}
+use Rattle.answers.specs.declared.Refusal.the-variants.{None}
+use Rattle.page_resolve.specs.Rates.{rateOrder, isCommon}
+use Rattle.page_resolve.specs.Resolving.{resolutionOf}
 
 -- "Common bits, first in this order": the ability stands at a place of 01's order, and is common, and none before it is.
 pub record FirstCommon (own partner ability : ℕ) : Type 0 where

@@ -5,7 +5,7 @@
 -- Demand 1, "Every call takes any input and ends. Nobody checks anything beforehand. A refusal carries one number from 01's table, exactly when its condition
 -- holds; state and lent memory afterwards are as written there", is no field here. Each function's contract holds it: it is proved at every input that the
 -- function is safe, ends and answers and leaves what its definition has; and no public function has a `requires`, which `tools/no-requires` checks.
-use Rattle.gap.specs.Modes.{hsmMode, lsmMode}
+use Rattle.line_mode.specs.Modes.{hsmMode, lsmMode}
 use Rattle.promises.specs.TwoPasts.{NoPageOutlivesItsLink}
 use Rattle.promises.specs.AsIfNew.{AsIfNew}
 use Rattle.promises.specs.FirstLink.{FirstLink}

@@ -4,16 +4,16 @@ use Prim.Native.Nat.{ℕ, _^_}
 use mathlib.Core.Path.{_≡_}
 use mathlib.Core.Bool.{true, false}
 use mathlib.Core.List.{List, [], _∷_, _++_, map}
-use Rattle.refusal.specs.declared.Answer.the-variants.{Settled}
-use Rattle.refusal.specs.Answers.{spoken, pageRead, pageOrdered, settledOn, registerValue}
-use Rattle.gap.specs.Modes.{lsmMode}
-use Rattle.line.specs.Transitions.{readings}
-use Rattle.state.specs.declared.State.{State}
-use Rattle.state.specs.declared.State.the-variants.{Off, Break, Ability, Ack, Complete, CheckLink, Up}
-use Rattle.state.specs.Memory.{freshDevice}
-use Rattle.device.specs.declared.events.Event.{Event}
-use Rattle.device.specs.declared.events.Event.the-variants.{Edge, Tick, Sent, Report, Read, Write}
-use Rattle.device.specs.Steps.{saysTo, afterAll}
+use Rattle.answers.specs.declared.Answer.the-variants.{Settled}
+use Rattle.answers.specs.Answers.{spoken, pageRead, pageOrdered, settledOn, registerValue}
+use Rattle.line_mode.specs.Modes.{lsmMode}
+use Rattle.line_writer.specs.Transitions.{readings}
+use Rattle.port_state.specs.declared.State.{State}
+use Rattle.port_state.specs.declared.State.the-variants.{Off, Break, Ability, Ack, Complete, CheckLink, Up}
+use Rattle.port_state.specs.Memory.{freshDevice}
+use Rattle.port_step.specs.declared.events.Event.{Event}
+use Rattle.port_step.specs.declared.events.Event.the-variants.{Edge, Tick, Sent, Report, Read, Write}
+use Rattle.port_step.specs.Steps.{saysTo, afterAll}
 
 -- A page's edges from a reading on.
 abbrev pub pageFrom : ℕ → ℕ → List Event

@@ -6,16 +6,17 @@ use mathlib.Core.Bool.{Bool, true, false, cond, _&&_}
 use mathlib.Core.List.{List, [], _∷_, _++_}
 use lib.Dec.{leb}
 use lib.ListN.{length, replicate, drop}
-use Rattle.refusal.specs.Answers.{Said, nothing, refused, pageRead, number, spoken}
-use Rattle.gap.specs.declared.modes.LineMode.{LineMode}
-use Rattle.gap.specs.Clock.{timeBetween}
-use Rattle.gap.specs.Gaps.{within}
-use Rattle.line.specs.Transitions.{transitions, readings, edgeCount}
-use Rattle.line.specs.Writing.{writeSays, writeLeaves}
-use Rattle.reader.specs.declared.reader.Reader.the-variants.{Fresh}
-use Rattle.reader.specs.Reading.{edgeOf, saidAlong, readerAfter}
-use Rattle.reading.specs.Captures.{isOpen, atTheEnd, readOf}
-use Rattle.listing_text.specs.Listing.{attemptsFrom}
+use Rattle.answers.specs.Answers.{Said, nothing, refused, pageRead, number, spoken}
+use Rattle.answers.specs.declared.Refusal.the-variants.{Cut}
+use Rattle.line_mode.specs.declared.modes.LineMode.{LineMode}
+use Rattle.line_mode.specs.Clock.{timeBetween}
+use Rattle.line_mode.specs.Gaps.{within}
+use Rattle.line_writer.specs.Transitions.{transitions, readings, edgeCount}
+use Rattle.line_writer.specs.Writing.{writeSays, writeLeaves}
+use Rattle.line_reader.specs.declared.reader.Reader.the-variants.{Fresh}
+use Rattle.line_reader.specs.Reading.{edgeOf, saidAlong, readerAfter}
+use Rattle.line_captures.specs.Captures.{isOpen, atTheEnd, readOf}
+use Rattle.bench_listing.specs.Listing.{attemptsFrom}
 
 -- Edges in the windows of transitions: one edge for each, and between neighbours, k positions apart, a gap that "lies within k·spacing ± tolerance,
 -- ends included". The first edge may stand at any reading. Here the edges after one at x, which stands for position p,
@@ -73,7 +74,7 @@ pub record ReadingBack (mode : ℕ) (m : LineMode) : Type 0 where
   -- edges are dropped "until one follows a quiet gap; it opens an attempt".
   pub after-quiet : (past : List ℕ) (last x w : ℕ) (edges : List ℕ) → m .quiet ≤ timeBetween x last → w < 2 ^ 48 → Carries m w (x ∷ edges)
       → saidAlong m (readerAfter m Fresh (past ++ (last ∷ []))) (x ∷ edges)
-      ≡ cond (isOpen (readerAfter m Fresh (past ++ (last ∷ [])))) (refused 2) nothing ∷ atTheLast edges (pageRead w)
+      ≡ cond (isOpen (readerAfter m Fresh (past ++ (last ∷ [])))) (refused Cut) nothing ∷ atTheLast edges (pageRead w)
   -- No edges carry two words.
   pub one-word : (v w : ℕ) (edges : List ℕ) → v < 2 ^ 48 → w < 2 ^ 48 → Carries m v edges → Carries m w edges → v ≡ w
   -- Nothing else is read as a page: where a reader says a word, after whatever edges since it was fresh, the last edges carry it, and the

@@ -4,22 +4,24 @@ use mathlib.Core.Path.{_≡_}
 use mathlib.Core.Bool.{true, false}
 use mathlib.Core.List.{List, [], _∷_, _++_, map}
 use lib.ListN.{replicate}
-use Rattle.refusal.specs.Answers.{Said, refused, pageRead, pageOrdered, spoken}
-use Rattle.page.specs.Word.{bitsOf}
-use Rattle.gap.specs.Modes.{lsmMode}
-use Rattle.line.specs.Transitions.{hasTransition, positionsTo, readingAt}
-use Rattle.line.specs.Writing.{writeSays, writeLeaves}
-use Rattle.reader.specs.declared.reader.Reader.{Reader}
-use Rattle.reader.specs.declared.reader.Reader.the-variants.{Open, Dropping}
-use Rattle.reading.specs.Captures.{readOf}
-use Rattle.state.specs.declared.State.{State}
-use Rattle.state.specs.declared.State.the-variants.{Break, Ability, CheckLink}
-use Rattle.state.specs.Memory.{freshDevice, withReader}
-use Rattle.device.specs.declared.events.Event.{Event}
-use Rattle.device.specs.declared.events.Event.the-variants.{Edge, Tick, Sent, Report, Read, Write}
-use Rattle.device.specs.Steps.{stepDue, saysTo, afterAll}
-use Rattle.device.specs.Runs.{runSays, runLeaves}
-use Rattle.listing_text.specs.Listing.{refusedLine, listing}
+use Rattle.answers.specs.Answers.{Said, refused, pageRead, pageOrdered, spoken}
+use Rattle.answers.specs.declared.Refusal.{Refusal}
+use Rattle.answers.specs.declared.Refusal.the-variants.{Gap, Cut, Check, Selector, Tie, Changed, Echo, None, Roles, Register, Turn, Room, Wide, Mode}
+use Rattle.page_word.specs.Word.{bitsOf}
+use Rattle.line_mode.specs.Modes.{lsmMode}
+use Rattle.line_writer.specs.Transitions.{hasTransition, positionsTo, readingAt}
+use Rattle.line_writer.specs.Writing.{writeSays, writeLeaves}
+use Rattle.line_reader.specs.declared.reader.Reader.{Reader}
+use Rattle.line_reader.specs.declared.reader.Reader.the-variants.{Open, Dropping}
+use Rattle.line_captures.specs.Captures.{readOf}
+use Rattle.port_state.specs.declared.State.{State}
+use Rattle.port_state.specs.declared.State.the-variants.{Break, Ability, CheckLink}
+use Rattle.port_state.specs.Memory.{freshDevice, withReader}
+use Rattle.port_step.specs.declared.events.Event.{Event}
+use Rattle.port_step.specs.declared.events.Event.the-variants.{Edge, Tick, Sent, Report, Read, Write}
+use Rattle.port_step.specs.Steps.{stepDue, saysTo, afterAll}
+use Rattle.port_step.specs.Runs.{runSays, runLeaves}
+use Rattle.bench_listing.specs.Listing.{refusedLine, listing}
 use Rattle.promises.specs.FirstLink.{pageFrom, toBreak, toAbility, toAck, threeSent, stateAfter}
 
 -- Events from a fresh device on: all that is said on the way, and the state that is left.
@@ -28,23 +30,23 @@ pub record Run (events : List Event) (says : List Said) (state : State) : Type 0
   pub left : stateAfter events ≡ state
 
 -- Of an attempt that is refused in Ability: what is said, "attempt ended; state as above", and the reader that is left.
-pub record Ended (events : List Event) (n : ℕ) (reader : Reader) : Type 0 where
-  pub run : Run events (refused n ∷ []) Ability
+pub record Ended (events : List Event) (refusal : Refusal) (reader : Reader) : Type 0 where
+  pub run : Run events (refused refusal ∷ []) Ability
   pub left : afterAll freshDevice events .reader ≡ reader
 
 -- One more event after others: it is refused with this number, and the device is kept as it was, all of it.
-pub record Kept (past : List Event) (event : Event) (n : ℕ) : Type 0 where
-  pub says : stepDue event (afterAll freshDevice past) .says ≡ refused n
+pub record Kept (past : List Event) (event : Event) (refusal : Refusal) : Type 0 where
+  pub says : stepDue event (afterAll freshDevice past) .says ≡ refused refusal
   pub kept : stepDue event (afterAll freshDevice past) .device ≡ afterAll freshDevice past
 
 -- A write call, with 0 as the first reading: refused with this number, "list kept".
-pub record ListKept (mode : ℕ) (list : List ℕ) (place word n : ℕ) : Type 0 where
-  pub says : writeSays mode list place word ≡ refused n
+pub record ListKept (mode : ℕ) (list : List ℕ) (place word : ℕ) (refusal : Refusal) : Type 0 where
+  pub says : writeSays mode list place word ≡ refused refusal
   pub kept : writeLeaves mode list place word 0 ≡ list
 
 -- A run call: refused with this number, and the list for its answers kept.
-pub record RunKept (events answers : List ℕ) (n : ℕ) : Type 0 where
-  pub says : runSays events answers ≡ refused n
+pub record RunKept (events answers : List ℕ) (refusal : Refusal) : Type 0 where
+  pub says : runSays events answers ≡ refused refusal
   pub kept : runLeaves events answers ≡ answers
 
 -- A word's page, but with sixteen zeros where its check bits belong.
@@ -63,45 +65,45 @@ settlingWith low middle word =
 
 pub record EachRefusal : Type 0 where
   -- 1, Gap: a gap of 1100 ns is unfit. Edges are dropped from then on.
-  pub gap : Ended (toAbility ++ (Edge 8001000 ∷ Edge 8002100 ∷ [])) 1 (Dropping 8002100)
+  pub gap : Ended (toAbility ++ (Edge 8001000 ∷ Edge 8002100 ∷ [])) Gap (Dropping 8002100)
   -- 2, Cut: a gap of 3441 ns is quiet. "that edge opens the next"
-  pub cut : Ended (toAbility ++ (Edge 8001000 ∷ Edge 8004441 ∷ [])) 2 (Open 1 8004441 0)
+  pub cut : Ended (toAbility ++ (Edge 8001000 ∷ Edge 8004441 ∷ [])) Cut (Open 1 8004441 0)
   -- 3, Check: the check bits of A90001 are not zero. Position 157 is 124 800 ns after the first.
-  pub check : Ended (toAbility ++ pageUnchecked 8001000 0xA90001) 3 (Dropping 8125800)
+  pub check : Ended (toAbility ++ pageUnchecked 8001000 0xA90001) Check (Dropping 8125800)
   -- 4, Selector: a page with S = 2. "device stays": all of it but the reader, which drops edges from then on.
-  pub selector : Run (toAbility ++ pageFrom 8001000 0xA90002) (refused 4 ∷ []) Ability
+  pub selector : Run (toAbility ++ pageFrom 8001000 0xA90002) (refused Selector ∷ []) Ability
   pub selector-stays : afterAll freshDevice (toAbility ++ pageFrom 8001000 0xA90002) ≡ withReader (Dropping 8125800) (afterAll freshDevice toAbility)
   -- 5, Tie: the partner has drawn 5 as well. "Break"
-  pub tie : Run (toAbility ++ pageFrom 8001000 0xA50001) (refused 5 ∷ []) Break
+  pub tie : Run (toAbility ++ pageFrom 8001000 0xA50001) (refused Tie ∷ []) Break
   -- 6, Changed: the second page has A1 as well. "Break"
-  pub changed : Run (toAck ++ pageFrom 8200000 0xE90001) (pageRead 0xA90001 ∷ refused 6 ∷ []) Break
+  pub changed : Run (toAck ++ pageFrom 8200000 0xE90001) (pageRead 0xA90001 ∷ refused Changed ∷ []) Break
   -- 7, Echo: the second page has Ack 1 and echoes 6. "Break"
-  pub echo : Run (toAck ++ pageFrom 8200000 0xA940C1) (pageRead 0xA90001 ∷ refused 7 ∷ []) Break
+  pub echo : Run (toAck ++ pageFrom 8200000 0xA940C1) (pageRead 0xA90001 ∷ refused Echo ∷ []) Break
   -- 8, None: A1 is advertised, the partner has A0 and A2 (P13). "Check-link without a rate": link up does not lead to Up.
   pub none : Run (settlingWith 0 0x40 0xA90001)
-      (pageRead 0xA90001 ∷ pageRead 0xA940A1 ∷ pageOrdered 0x454121 ∷ pageOrdered 0x454121 ∷ pageOrdered 0x454121 ∷ refused 8 ∷ []) CheckLink
+      (pageRead 0xA90001 ∷ pageRead 0xA940A1 ∷ pageOrdered 0x454121 ∷ pageOrdered 0x454121 ∷ pageOrdered 0x454121 ∷ refused None ∷ []) CheckLink
   -- 9, Roles: both forced, and T4 is 0 on both sides (P10).
   pub roles : Run (settlingWith 0x1000 0x80 0xA91001)
-      (pageRead 0xA91001 ∷ pageRead 0xA950A1 ∷ pageOrdered 0x855121 ∷ pageOrdered 0x855121 ∷ pageOrdered 0x855121 ∷ refused 9 ∷ []) CheckLink
+      (pageRead 0xA91001 ∷ pageRead 0xA950A1 ∷ pageOrdered 0x855121 ∷ pageOrdered 0x855121 ∷ pageOrdered 0x855121 ∷ refused Roles ∷ []) CheckLink
   -- 10, Register: "not 512-519; state kept"
-  pub register-read : Kept toAck (Read 8200000 520) 10
-  pub register-written : Kept toAck (Write 8200000 511 1) 10
+  pub register-read : Kept toAck (Read 8200000 520) Register
+  pub register-written : Kept toAck (Write 8200000 511 1) Register
   -- 11, Turn: "sent in Off or Break, or with no page out; kept"
-  pub turn-off : Kept [] (Sent 0) 11
-  pub turn-break : Kept toBreak (Sent 1) 11
-  pub turn-no-page : Kept toAck (Sent 8200000) 11
+  pub turn-off : Kept [] (Sent 0) Turn
+  pub turn-break : Kept toBreak (Sent 1) Turn
+  pub turn-no-page : Kept toAck (Sent 8200000) Turn
   -- 12, Room: "place past the end; writing: entries from it on fewer than the page's; list kept". The zero page has 81 readings at high speed.
-  pub room-read : readOf 0 (replicate 81 7) 82 .says ≡ refused 12
-  pub room-past-end : ListKept 0 (replicate 81 7) 82 0 12
-  pub room-fewer : ListKept 0 (replicate 80 7) 0 0 12
+  pub room-read : readOf 0 (replicate 81 7) 82 .says ≡ refused Room
+  pub room-past-end : ListKept 0 (replicate 81 7) 82 0 Room
+  pub room-fewer : ListKept 0 (replicate 80 7) 0 0 Room
   -- A run of two events, both ticks, with room for one answer.
-  pub room-run : RunKept (1 ∷ 0 ∷ 0 ∷ 1 ∷ 0 ∷ 0 ∷ []) (7 ∷ []) 12
+  pub room-run : RunKept (1 ∷ 0 ∷ 0 ∷ 1 ∷ 0 ∷ 0 ∷ []) (7 ∷ []) Room
   -- 13, Wide: "word 2^48 or more; list kept"
-  pub wide : ListKept 0 (replicate 150 7) 0 (2 ^ 48) 13
+  pub wide : ListKept 0 (replicate 150 7) 0 (2 ^ 48) Wide
   -- 14, Mode: "not 0 or 1; list kept"
-  pub mode : ListKept 2 (replicate 150 7) 0 0 14
+  pub mode : ListKept 2 (replicate 150 7) 0 0 Mode
   -- "Order: Mode, Wide, Room." An empty list has room for nothing.
-  pub mode-first : ListKept 2 [] 0 (2 ^ 48) 14
-  pub wide-next : ListKept 0 [] 0 (2 ^ 48) 13
+  pub mode-first : ListKept 2 [] 0 (2 ^ 48) Mode
+  pub wide-next : ListKept 0 [] 0 (2 ^ 48) Wide
   -- 15, Odd: "program only": three bytes after the mode's are listed as `refused 15`.
   pub odd : listing (0 ∷ 0 ∷ 0 ∷ 0 ∷ []) ≡ refusedLine 15

@@ -3,14 +3,15 @@ use Prim.Native.Nat.{_^_}
 use mathlib.Core.Path.{_≡_}
 use mathlib.Core.Bool.{true, false}
 use lib.ListN.{getD}
-use Rattle.refusal.specs.Answers.{refused, settledOn, registerValue}
-use Rattle.check_bits.specs.CheckBits.{checkBits}
-use Rattle.resolve.specs.Resolving.{resolveSays}
-use Rattle.gap.specs.Clock.{timeBetween}
-use Rattle.gap.specs.Modes.{hsmMode, lsmMode}
-use Rattle.line.specs.Transitions.{readings, edgeCount}
-use Rattle.state.specs.Memory.{freshDevice}
-use Rattle.registers.specs.Registers.{readDue}
+use Rattle.answers.specs.Answers.{refused, settledOn, registerValue}
+use Rattle.answers.specs.declared.Refusal.the-variants.{Tie, None, Roles}
+use Rattle.page_check_bits.specs.CheckBits.{checkBits}
+use Rattle.page_resolve.specs.Resolving.{resolveSays}
+use Rattle.line_mode.specs.Clock.{timeBetween}
+use Rattle.line_mode.specs.Modes.{hsmMode, lsmMode}
+use Rattle.line_writer.specs.Transitions.{readings, edgeCount}
+use Rattle.port_state.specs.Memory.{freshDevice}
+use Rattle.port_registers.specs.Registers.{readDue}
 
 -- "P1 check of word 0 is 0. P2 of 2^47 is 8005 hex. P3 of 2^46 is 800F. P4 of 2^45 is 801B. P5 readings 4294967290, 24: time 30. P6 zero page, HSM: 81
 -- edges over 4680 ns. P7 LSM: 86 over 124 800. P8 2^47, HSM: 85 edges. P9 own 850001, partner A90001 (hex): 1000BASE-T1, slave. P10 851001, A91001:
@@ -26,8 +27,8 @@ pub record Table : Type 0 where
   pub p7 : (edgeCount lsmMode 0 ≡ 86) × (getD (readings lsmMode 0 0) 85 0 ≡ 124800)
   pub p8 : edgeCount hsmMode (2 ^ 47) ≡ 85
   pub p9 : resolveSays 0x850001 0xA90001 ≡ settledOn 2 false
-  pub p10 : resolveSays 0x851001 0xA91001 ≡ refused 9
+  pub p10 : resolveSays 0x851001 0xA91001 ≡ refused Roles
   pub p11 : resolveSays 0x951001 0xA90001 ≡ settledOn 2 true
-  pub p12 : resolveSays 0x850001 0x850001 ≡ refused 5
-  pub p13 : resolveSays 0x450001 0xA90001 ≡ refused 8
+  pub p12 : resolveSays 0x850001 0x850001 ≡ refused Tie
+  pub p13 : resolveSays 0x450001 0xA90001 ≡ refused None
   pub p14 : readDue 513 freshDevice .says ≡ registerValue 0x0008

@@ -6,17 +6,17 @@ use mathlib.Core.Path.{_≡_}
 use mathlib.Core.Bool.{Bool, true, false, cond, not, _&&_, _||_}
 use mathlib.Core.List.{List, [], _∷_, map}
 use lib.Dec.{eqb}
-use Rattle.refusal.specs.Answers.{Said, saying}
-use Rattle.page.specs.Word.{hasBit}
-use Rattle.gap.specs.Clock.{timeBetween}
-use Rattle.state.specs.declared.State.{State}
-use Rattle.state.specs.declared.State.the-variants.{Off, Break, Ability, Ack, Complete, CheckLink, Up}
-use Rattle.state.specs.declared.Device.{Device}
-use Rattle.state.specs.Memory.{freshDevice}
-use Rattle.registers.specs.Registers.{readDue}
-use Rattle.device.specs.declared.events.Event.{Event}
-use Rattle.device.specs.declared.events.Event.the-variants.{Edge, Tick, Sent, Report, Read, Write, Unnamed}
-use Rattle.device.specs.Steps.{stepDue, saysTo, afterAll}
+use Rattle.answers.specs.Answers.{Said, saying}
+use Rattle.page_word.specs.Word.{hasBit}
+use Rattle.line_mode.specs.Clock.{timeBetween}
+use Rattle.port_state.specs.declared.State.{State}
+use Rattle.port_state.specs.declared.State.the-variants.{Off, Break, Ability, Ack, Complete, CheckLink, Up}
+use Rattle.port_state.specs.declared.Device.{Device}
+use Rattle.port_state.specs.Memory.{freshDevice}
+use Rattle.port_registers.specs.Registers.{readDue}
+use Rattle.port_step.specs.declared.events.Event.{Event}
+use Rattle.port_step.specs.declared.events.Event.the-variants.{Edge, Tick, Sent, Report, Read, Write, Unnamed}
+use Rattle.port_step.specs.Steps.{stepDue, saysTo, afterAll}
 
 -- Whether a state is Break.
 abbrev pub isBreak : State → Bool

@@ -3,13 +3,13 @@ use Prim.Native.Nat.{_^_}
 use mathlib.Core.Path.{_≡_}
 use mathlib.Core.Bool.{true, false}
 use mathlib.Core.List.{List, [], _∷_, map}
-use Rattle.refusal.specs.Answers.{nothing, pageOrdered, registerValue}
-use Rattle.gap.specs.Clock.{timeBetween}
-use Rattle.state.specs.declared.Device.{Device}
-use Rattle.state.specs.Memory.{freshDevice}
-use Rattle.device.specs.declared.events.Event.{Event}
-use Rattle.device.specs.declared.events.Event.the-variants.{Tick, Report, Read, Write}
-use Rattle.device.specs.Steps.{stepDue, saysTo, afterAll}
+use Rattle.answers.specs.Answers.{nothing, pageOrdered, registerValue}
+use Rattle.line_mode.specs.Clock.{timeBetween}
+use Rattle.port_state.specs.declared.Device.{Device}
+use Rattle.port_state.specs.Memory.{freshDevice}
+use Rattle.port_step.specs.declared.events.Event.{Event}
+use Rattle.port_step.specs.declared.events.Event.the-variants.{Tick, Report, Read, Write}
+use Rattle.port_step.specs.Steps.{stepDue, saysTo, afterAll}
 use Rattle.promises.specs.TwoPasts.{entersBreak, readingOf, shiftedBy, without6And4}
 use Rattle.promises.specs.FirstLink.{toUp}
 

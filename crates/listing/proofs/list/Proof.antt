@@ -4,8 +4,8 @@ use Prim.Native.Nat.{_%_, _≤_}
 use native.Mathlib.Omega.{arith}
 use lib.ListN.{length}
 use lib.Seq.{length-take-le}
-use Rattle.refusal.specs.Answers.{packed}
-use Rattle.listing_text.proofs.ListingLength.{answered}
+use Rattle.answers.specs.Answers.{packed}
+use Rattle.bench_listing.proofs.ListingLength.{answered}
 use borrow.Author.Needs.{needs}
 use Rattle.listing.proofs.list.Statement.{statement}
 use Rattle.listing.proofs.list.Tie as tie

@@ -1,6 +1,6 @@
 use mathlib.Core.Path.{ap, _∙_}
 use borrow.Author.Needs.{needs}
-use Rattle.refusal.specs.Answers.{packed}
+use Rattle.answers.specs.Answers.{packed}
 use Rattle.maststep.proofs.NextLaws.{kept-by-mode, kept-by-room, told}
 use Rattle.maststep.proofs.maststep_read.Statement.{statement}
 use Rattle.maststep.proofs.maststep_read.Tie as tie

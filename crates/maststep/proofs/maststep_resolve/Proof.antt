@@ -1,8 +1,8 @@
 use mathlib.Core.Path.{ap, _∙_}
 use borrow.Author.Needs.{needs}
-use Rattle.refusal.specs.Answers.{said, packed}
-use Rattle.refusal.specs.declared.Answer.{Answer}
-use Rattle.resolve.specs.Resolving.{resolveSays}
+use Rattle.answers.specs.Answers.{said, packed}
+use Rattle.answers.specs.declared.Answer.{Answer}
+use Rattle.page_resolve.specs.Resolving.{resolveSays}
 use Rattle.maststep.proofs.maststep_resolve.Statement.{statement}
 use Rattle.maststep.proofs.maststep_resolve.Tie as tie
 

@@ -1,0 +1,144 @@
+-- No second answer says the same: a promise about what is said fixes the answer.
+-- `heard` finds the answer again from what was said, so two answers that say the same are one.
+-- The number of an ability is a byte in the code; here that is the premise `Sayable`.
+use mathlib.Core.Path.{_≡_, refl, sym, ap, _∙_}
+use mathlib.Core.Bool.{Bool, true, false, cond}
+use Prim.Native.Nat.{ℕ, _+_, _-_, _/_, _^_, _<_, _≤_}
+use native.Mathlib.Nat.{mod-lt}
+use native.Mathlib.Omega.{arith}
+use lib.Arith.{digits-div}
+use lib.Dec.{eqb, leb, ltb}
+use lib.Pow.{pow-pos}
+use borrow.Author.Tests.{le-leb, lt-leb, ne-eqb}
+use Rattle.answers.specs.declared.Refusal.{Refusal}
+use Rattle.answers.specs.declared.Refusal.the-variants.{Gap, Cut, Check, Selector, Tie, Changed, Echo, None, Roles, Register, Turn, Room, Wide, Mode, Odd}
+use Rattle.answers.specs.declared.Answer.{Answer}
+use Rattle.answers.specs.declared.Answer.the-variants.{Nothing, Refused, Page, Order, Settled, Value, Number, Quiet, Unfit}
+use Rattle.answers.specs.Numbers.{numberOf}
+use Rattle.answers.specs.Answers.{Said, said, packed}
+
+-- The refusal with a number of 01's table; past its end the last.
+abbrev refusalAt : ℕ → Refusal
+refusalAt n =
+    cond (eqb n 1) Gap
+    (cond (eqb n 2) Cut
+    (cond (eqb n 3) Check
+    (cond (eqb n 4) Selector
+    (cond (eqb n 5) Tie
+    (cond (eqb n 6) Changed
+    (cond (eqb n 7) Echo
+    (cond (eqb n 8) None
+    (cond (eqb n 9) Roles
+    (cond (eqb n 10) Register
+    (cond (eqb n 11) Turn
+    (cond (eqb n 12) Room
+    (cond (eqb n 13) Wide
+    (cond (eqb n 14) Mode Odd)))))))))))))
+
+abbrev settledAt : Bool → ℕ → Answer
+settledAt true v = Settled (v - 256) true
+settledAt false v = Settled v false
+
+abbrev answerAt : ℕ → ℕ → Answer
+answerAt kind value =
+    cond (eqb kind 0) Nothing
+    (cond (ltb kind 128) (Refused (refusalAt kind))
+    (cond (eqb kind 128) (Page value)
+    (cond (eqb kind 129) (Order value)
+    (cond (eqb kind 130) (settledAt (leb 256 value) value)
+    (cond (eqb kind 131) (Value value)
+    (cond (eqb kind 132) (Number value)
+    (cond (eqb kind 133) Quiet Unfit)))))))
+
+abbrev heard : Said → Answer
+heard s = answerAt (s .kind) (s .value)
+
+-- The number of an ability is a byte.
+abbrev pub Sayable : Answer → Type 0
+Sayable Nothing = Unit {0}
+Sayable (Refused r) = Unit {0}
+Sayable (Page w) = Unit {0}
+Sayable (Order w) = Unit {0}
+Sayable (Settled a m) = a < 256
+Sayable (Value v) = Unit {0}
+Sayable (Number n) = Unit {0}
+Sayable Quiet = Unit {0}
+Sayable Unfit = Unit {0}
+
+refusal-again : (r : Refusal) → heard (said (Refused r)) ≡ Refused r
+refusal-again Gap = refl
+refusal-again Cut = refl
+refusal-again Check = refl
+refusal-again Selector = refl
+refusal-again Tie = refl
+refusal-again Changed = refl
+refusal-again Echo = refl
+refusal-again None = refl
+refusal-again Roles = refl
+refusal-again Register = refl
+refusal-again Turn = refl
+refusal-again Room = refl
+refusal-again Wide = refl
+refusal-again Mode = refl
+refusal-again Odd = refl
+
+settled-again : (a : ℕ) (m : Bool) → a < 256 → heard (said (Settled a m)) ≡ Settled a m
+settled-again a true h = let e : leb 256 (a + 256) ≡ true = le-leb 256 (a + 256) (omega arith) in let d : a + 256 - 256 ≡ a = omega arith in rw e (rw d refl)
+settled-again a false h = rw (lt-leb 256 a h) refl
+
+again : (a : Answer) → Sayable a → heard (said a) ≡ a
+again Nothing h = refl
+again (Refused r) h = refusal-again r
+again (Page w) h = refl
+again (Order w) h = refl
+again (Settled a m) h = settled-again a m h
+again (Value v) h = refl
+again (Number n) h = refl
+again Quiet h = refl
+again Unfit h = refl
+
+pub one-answer : (a b : Answer) → Sayable a → Sayable b → said a ≡ said b → a ≡ b
+one-answer a b ha hb e = sym (again a ha) ∙ ap heard e ∙ again b hb
+
+-- A refusal says something: no refusal has the number 0.
+pub never-zero : (r : Refusal) → eqb (numberOf r) 0 ≡ false
+never-zero Gap = refl
+never-zero Cut = refl
+never-zero Check = refl
+never-zero Selector = refl
+never-zero Tie = refl
+never-zero Changed = refl
+never-zero Echo = refl
+never-zero None = refl
+never-zero Roles = refl
+never-zero Register = refl
+never-zero Turn = refl
+never-zero Room = refl
+never-zero Wide = refl
+never-zero Mode = refl
+never-zero Odd = refl
+
+-- and none has a number beyond 01's table.
+pub at-most-15 : (r : Refusal) → numberOf r ≤ 15
+at-most-15 Gap = omega arith
+at-most-15 Cut = omega arith
+at-most-15 Check = omega arith
+at-most-15 Selector = omega arith
+at-most-15 Tie = omega arith
+at-most-15 Changed = omega arith
+at-most-15 Echo = omega arith
+at-most-15 None = omega arith
+at-most-15 Roles = omega arith
+at-most-15 Register = omega arith
+at-most-15 Turn = omega arith
+at-most-15 Room = omega arith
+at-most-15 Wide = omega arith
+at-most-15 Mode = omega arith
+at-most-15 Odd = omega arith
+
+pub no-refusal : (r : Refusal) (kind : ℕ) → 16 ≤ kind → eqb (numberOf r) kind ≡ false
+no-refusal r kind beyond = ne-eqb (numberOf r) kind (λ same. let most = at-most-15 r in absurd (omega arith))
+
+-- The kind of an answer is read off its number.
+pub kind-of-packed : (s : Said) → packed s / 2 ^ 56 ≡ s .kind
+kind-of-packed s = digits-div (s .kind) (mod-lt (s .value) (pow-pos 56))

@@ -1,0 +1,22 @@
+-- 01, "Refusal numbers": the table's two first columns.
+use Prim.Native.Nat.{ℕ}
+use Rattle.answers.specs.declared.Refusal.{Refusal}
+use Rattle.answers.specs.declared.Refusal.the-variants.{Gap, Cut, Check, Selector, Tie, Changed, Echo, None, Roles, Register, Turn, Room, Wide, Mode, Odd}
+
+-- Each refusal's number.
+abbrev pub numberOf : Refusal → ℕ
+numberOf Gap = 1
+numberOf Cut = 2
+numberOf Check = 3
+numberOf Selector = 4
+numberOf Tie = 5
+numberOf Changed = 6
+numberOf Echo = 7
+numberOf None = 8
+numberOf Roles = 9
+numberOf Register = 10
+numberOf Turn = 11
+numberOf Room = 12
+numberOf Wide = 13
+numberOf Mode = 14
+numberOf Odd = 15

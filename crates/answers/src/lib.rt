@@ -1,0 +1,103 @@
+// Document 01's table of refusals, and the one way in which an answer becomes a number.
+ghost use mathlib.Core.Path.{_≡_};
+ghost use mathlib.Core.Bool.{cond};
+ghost use Prim.Native.Nat.{_+_};
+ghost use Rattle.answers.specs.Numbers.{numberOf};
+ghost use Rattle.answers.specs.Answers.{said, packed, saying};
+
+// The refusals, in the order of 01's table.
+pub enum Refusal {
+    Gap,
+    Cut,
+    Check,
+    Selector,
+    Tie,
+    Changed,
+    Echo,
+    None,
+    Roles,
+    Register,
+    Turn,
+    Room,
+    Wide,
+    Mode,
+    Odd,
+}
+
+// What a call answers. A value stands in the variant that carries it.
+pub enum Answer {
+    Nothing,
+    Refused(Refusal),
+    Page(u64),
+    Order(u64),
+    Settled { ability: u8, master: bool },
+    Value(u16),
+    Number(u64),
+    Quiet,
+    Unfit,
+}
+
+impl Refusal {
+    // The refusal's number in 01's table.
+    pub fn number(self) -> u8
+        ensures { λ r. ⌜ r ≡ numberOf self ⌝ }
+    {
+        match self {
+            Refusal::Gap => 1,
+            Refusal::Cut => 2,
+            Refusal::Check => 3,
+            Refusal::Selector => 4,
+            Refusal::Tie => 5,
+            Refusal::Changed => 6,
+            Refusal::Echo => 7,
+            Refusal::None => 8,
+            Refusal::Roles => 9,
+            Refusal::Register => 10,
+            Refusal::Turn => 11,
+            Refusal::Room => 12,
+            Refusal::Wide => 13,
+            Refusal::Mode => 14,
+            Refusal::Odd => 15,
+        }
+    }
+}
+
+// 2^56: the kind of an answer stands above its value.
+pub const KIND: u64 = 72057594037927936;
+
+// A kind and a value as one number.
+fn joined(kind: u8, value: u64) -> u64
+    ensures { λ r. ⌜ r ≡ packed (saying kind value) ⌝ }
+{
+    (kind as u64) * KIND + value % KIND
+}
+
+// An ability and a role as one value.
+fn rate_and_role(ability: u8, master: bool) -> u64
+    ensures { λ r. ⌜ r ≡ cond master (ability + 256) ability ⌝ }
+{
+    if master {
+        (ability as u64) + 256
+    } else {
+        ability as u64
+    }
+}
+
+impl Answer {
+    // The answer as one number, for programs that know no enum.
+    pub fn packed(self) -> u64
+        ensures { λ r. ⌜ r ≡ packed (said self) ⌝ }
+    {
+        match self {
+            Answer::Nothing => joined(0, 0),
+            Answer::Refused(refusal) => joined(refusal.number(), 0),
+            Answer::Page(word) => joined(128, word),
+            Answer::Order(word) => joined(129, word),
+            Answer::Settled { ability, master } => joined(130, rate_and_role(ability, master)),
+            Answer::Value(value) => joined(131, value as u64),
+            Answer::Number(number) => joined(132, number),
+            Answer::Quiet => joined(133, 0),
+            Answer::Unfit => joined(134, 0),
+        }
+    }
+}

@@ -1,0 +1,61 @@
+-- After each byte, so many of them stand in the output; what is left of them falls.
+use Prim.Native.Nat.{_-_}
+use native.Mathlib.Omega.{arith}
+use lib.ListN.{length}
+use borrow.Author.Needs.{needs}
+use Rattle.bench_listing.proofs.PlacingLaws.{Copying, copy-start, copy-on, copied}
+use Rattle.bench_listing.proofs.text.put_bytes.Statement.{statement}
+use Rattle.bench_listing.proofs.text.put_bytes.Tie as tie
+
+abbrev Inv-loop : tie.InvT-loop
+Inv-loop output₀ at bytes i₀ output i = Copying output₀ at bytes output i
+
+abbrev μ-loop : tie.MeasureT-loop
+μ-loop output₀ at bytes i₀ output i = length bytes - i
+
+loop-holds : tie.Need-loop-holds Inv-loop μ-loop
+loop-holds c = copy-start _ _ _
+
+shared-slice-read-output : tie.Need-shared-slice-read-output Inv-loop μ-loop
+shared-slice-read-output c = search needs
+
+add-output : tie.Need-add-output Inv-loop μ-loop
+add-output c = search needs
+
+slice-write-output : tie.Need-slice-write-output Inv-loop μ-loop
+slice-write-output c = search needs
+
+add-i : tie.Need-add-i Inv-loop μ-loop
+add-i c = search needs
+
+loop-less : tie.Need-loop-less Inv-loop μ-loop
+loop-less c = search needs
+
+loop-again : tie.Need-loop-again Inv-loop μ-loop
+loop-again c = copy-on _ _ _ _ _ (c .before .before .loop .inv) (omega arith) (omega arith)
+
+add-result : tie.Need-add-result Inv-loop μ-loop
+add-result c = search needs
+
+same-length : tie.Need-same-length Inv-loop μ-loop
+same-length c = search needs
+
+returns : tie.Need-returns Inv-loop μ-loop
+returns c = copied _ _ _ _ _ (c .before .loop .inv) (omega arith) (omega arith)
+
+pub put-bytes-spec : {M : Type 1} → statement M
+put-bytes-spec =
+    tie.close
+    (tie.spec
+    Inv-loop
+    μ-loop
+    loop-holds
+    shared-slice-read-output
+    add-output
+    slice-write-output
+    add-i
+    loop-less
+    loop-again
+    add-result
+    same-length
+    returns)

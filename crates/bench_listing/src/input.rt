@@ -1,0 +1,90 @@
+// From the bytes of the input to the bytes of the listing.
+ghost use mathlib.Core.Path.{_≡_};
+ghost use Prim.Native.Nat.{_+_, _<_, _≤_};
+ghost use lib.ListN.{length, drop};
+ghost use Rattle.answers.specs.Answers.{said};
+ghost use Rattle.bench_listing.specs.Placing.{Puts, headed};
+ghost use Rattle.bench_listing.specs.Listing.{readingsOf, readingFrom, listing, listedReadings};
+ghost use Rattle.bench_listing.specs.Calls.{listSays, listReadings, listOutput};
+use crate::capture::list_capture;
+use crate::text::put_bytes;
+use answers::Answer;
+use answers::Refusal;
+
+// Room for every listing: a first and a last line of 20 bytes and 8 000 lines of 23 bytes.
+const MOST_BYTES: usize = 184040;
+
+const MOST_READINGS: usize = 8000;
+
+fn wide(byte: u8) -> u32
+    ensures { λ r. ⌜ (r ≡ byte) × (r < 256) ⌝ }
+{
+    byte as u32
+}
+
+// Four bytes from an index on, as a number.
+fn reading_at(input: &[u8], at: usize) -> u32
+    requires { ⌜ at + 4 ≤ length (now input) ⌝ }
+    ensures { λ r. ⌜ r ≡ readingFrom (now (input .entry)) at ⌝ }
+{
+    let a = wide(input[at]);
+    let b = wide(input[at + 1]);
+    let c = wide(input[at + 2]);
+    let d = wide(input[at + 3]);
+    a + 256 * b + 65536 * c + 16777216 * d
+}
+
+// The readings of all bytes after the first, at the head of a list that has room for them.
+fn decode(input: &[u8], readings: &mut [u32]) -> usize
+    requires { ⌜ (1 ≤ length (now input)) × (length (now input) ≤ 32001) × (8000 ≤ length (now readings)) ⌝ }
+    ensures contents { λ _. ⌜ now (readings .exit) ≡ headed (readingsOf (drop 1 (now (input .entry)))) (now (readings .entry)) ⌝ }
+    ensures count { λ r. ⌜ r ≡ length (readingsOf (drop 1 (now (input .entry)))) ⌝ }
+    ensures few { λ r. ⌜ r ≤ 8000 ⌝ }
+{
+    let count = (input.len() - 1) / 4;
+    let mut i: usize = 0;
+    while i < count {
+        readings[i] = reading_at(input, 1 + 4 * i);
+        i += 1;
+    }
+    count
+}
+
+// The listing of an input, into lists that hold every one.
+fn list_input(input: &[u8], readings: &mut [u32], output: &mut [u8]) -> usize
+    requires { ⌜ (8000 ≤ length (now readings)) × (184040 ≤ length (now output)) ⌝ }
+    ensures text { λ r. ⌜ Puts (now (output .entry)) 0 (listing (now (input .entry))) (now (output .exit)) r ⌝ }
+    ensures readings { λ _. ⌜ now (readings .exit) ≡ headed (listedReadings (now (input .entry))) (now (readings .entry)) ⌝ }
+{
+    if input.len() == 0 {
+        return put_bytes(output, 0, b"refused 14\n");
+    }
+    let mode = wide(input[0]);
+    if 1 < mode {
+        return put_bytes(output, 0, b"refused 14\n");
+    }
+    if 32001 < input.len() {
+        return put_bytes(output, 0, b"refused 12\n");
+    }
+    if (input.len() - 1) % 4 == 0 {
+        let count = decode(input, readings);
+        return list_capture(&readings[..count], mode, output);
+    }
+    put_bytes(output, 0, b"refused 15\n")
+}
+
+// Lists the input: the text at the head of the output, its readings at the head of the list of readings. Answers the text's length.
+pub fn list(input: &[u8], readings: &mut [u32], output: &mut [u8]) -> Answer
+    ensures says { λ r. ⌜ said r ≡ listSays (now (input .entry)) (now (readings .entry)) (now (output .entry)) ⌝ }
+    ensures readings { λ _. ⌜ now (readings .exit) ≡ listReadings (now (input .entry)) (now (readings .entry)) (now (output .entry)) ⌝ }
+    ensures output { λ _. ⌜ now (output .exit) ≡ listOutput (now (input .entry)) (now (readings .entry)) (now (output .entry)) ⌝ }
+{
+    if readings.len() < MOST_READINGS {
+        return Answer::Refused(Refusal::Room);
+    }
+    if output.len() < MOST_BYTES {
+        return Answer::Refused(Refusal::Room);
+    }
+    let length = list_input(input, readings, output);
+    Answer::Number(length as u64)
+}

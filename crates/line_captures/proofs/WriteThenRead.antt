@@ -1,0 +1,153 @@
+-- What is written is read back. The readings of a page at nominal spacing have gaps of so many spacings each, which lie in their windows; so the
+-- theorem of ReadBack holds of them, also where they stand in a list among others.
+use mathlib.Core.Path.{_≡_, refl, sym, ap, ap₂, _∙_, subst}
+use mathlib.Core.Bool.{Bool, true, false, cond, _&&_}
+use mathlib.Core.List.{List, [], _∷_, _++_, map, map-append, Forall₂, Forall₂·nil, Forall₂·cons}
+use Prim.Native.Nat.{ℕ, _+_, _-_, _*_, _%_, _^_, _<_, _≤_}
+use native.Mathlib.Nat.{add-mul, mul-le-mul-right}
+use native.Mathlib.Omega.{arith}
+use lib.Dec.{eqb}
+use lib.ListN.{length, take, drop, length-map, length-append}
+use lib.Seq.{drop-at, length-take-le}
+use borrow.Author.Tests.{le-ltb, ne-eqb, ltb-true, leb-true}
+use Rattle.page_word.specs.Word.{isWord}
+use Rattle.answers.specs.Answers.{Said, refused, number, pageRead}
+use Rattle.answers.specs.declared.Refusal.the-variants.{Room, Wide}
+use Rattle.line_mode.specs.declared.modes.LineMode.{LineMode}
+use Rattle.line_reader.specs.declared.reader.Reader.the-variants.{Fresh, Dropping}
+use Rattle.line_mode.specs.declared.modes.Found.the-variants.{Known, Unknown}
+use Rattle.line_mode.specs.Modes.{hsmMode, lsmMode, modeOf, saysBy, leavesBy}
+use Rattle.line_mode.specs.Clock.{timeBetween}
+use Rattle.line_mode.specs.Delimiters.{hsmDelimiter, lsmDelimiter}
+use Rattle.line_writer.specs.Transitions.{transitions, sentBits, hasTransition, positionsTo, readingAt, readings, edgeCount}
+use Rattle.line_writer.specs.Writing.{hasRoom, placed, saysIn, leavesIn, writeSays, writeLeaves}
+use Rattle.line_captures.specs.Captures.{Attempt, ends, opensAt, attemptOf, readIn, readBy, readOf}
+use Rattle.line_mode.proofs.Windows.{Apart, Near, hsm-apart, lsm-apart}
+use Rattle.line_writer.proofs.SentBits.{sent-length}
+use Rattle.line_writer.proofs.PagePattern.{at-clock}
+use Rattle.line_writer.proofs.WritingLoop.{more-yes}
+use Rattle.line_writer.proofs.WrittenList.{has-edges}
+use Rattle.line_captures.proofs.EdgeRuns.{gapsAfter, gaps, lastOf, edgeGaps, Sends}
+use Rattle.line_captures.proofs.GapMachine.{passes, passed, page-passes}
+use Rattle.line_captures.proofs.SentGaps.{afterClock, transitions-listed, transition-gaps}
+use Rattle.line_captures.proofs.ReadBack.{fresh-reads}
+use Rattle.line_captures.proofs.ReadCaptures.{page-answer}
+use Rattle.line_reader.proofs.ClockShift.{time-of-distance}
+
+module _ (m : LineMode) (first : ℕ) (clock : 4 * m .spacing < 2 ^ 32) where
+  -- The readings of positions.
+  abbrev times : List ℕ → List ℕ
+  times ps = map (readingAt (m .spacing) first) ps
+
+  -- The time between the readings of two positions is so many spacings,
+  nominal : (p q : ℕ) → 1 ≤ p → 1 ≤ q - p → q - p ≤ 4
+      → timeBetween (readingAt (m .spacing) first q) (readingAt (m .spacing) first p) ≡ (q - p) * m .spacing
+  nominal p q h l u =
+      ap (λ (n : ℕ). timeBetween (n % 2 ^ 32) (readingAt (m .spacing) first p)) sum
+      ∙ time-of-distance (first + (p - 1) * m .spacing) ((q - p) * m .spacing) (let b = mul-le-mul-right (m .spacing) u in omega arith)
+    where
+      sum : first + (q - 1) * m .spacing ≡ first + (p - 1) * m .spacing + (q - p) * m .spacing
+      sum =
+          ap (λ (n : ℕ). first + n * m .spacing) (let e : q - 1 ≡ p - 1 + (q - p) = omega arith in e)
+          ∙ ap (λ (n : ℕ). first + n) (add-mul (p - 1) (q - p) (m .spacing)) ∙ omega arith
+
+  -- and these lie in their window.
+  at-nominal : (k gap : ℕ) → gap ≡ k * m .spacing → Near m k gap
+  at-nominal k gap e = record { least = omega arith; most = omega arith }
+
+  -- So with the readings of positions whose gaps pass.
+  positions-near : (slow : Bool) (at p : ℕ) (ps : List ℕ) → 1 ≤ p → passes slow at (gapsAfter _-_ p ps) ≡ true
+      → Forall₂ (Near m) (gapsAfter _-_ p ps) (edgeGaps (times (p ∷ ps)))
+  positions-near slow at p [] h through = Forall₂·nil
+  positions-near slow at p (q ∷ ps) h through =
+      let c = passed slow at (q - p) (gapsAfter _-_ q ps) through in
+      Forall₂·cons
+      (at-nominal (q - p) (timeBetween (readingAt (m .spacing) first q) (readingAt (m .spacing) first p)) (nominal p q h (c .least) (c .most)))
+      (positions-near slow (at + (q - p)) q ps (let a = c .least in omega arith) (c .on))
+
+  -- A page's transitions begin at 1;
+  listed-near : (slow : Bool) (rest : List ℕ) → passes slow 1 (gaps _-_ (cond slow lsmDelimiter hsmDelimiter ++ rest)) ≡ true
+      → Forall₂ (Near m) (gaps _-_ (cond slow lsmDelimiter hsmDelimiter ++ rest)) (edgeGaps (times (cond slow lsmDelimiter hsmDelimiter ++ rest)))
+  listed-near true rest h = positions-near true 1 1 (drop 1 (lsmDelimiter ++ rest)) (omega arith) h
+  listed-near false rest h = positions-near false 1 1 (drop 1 (hsmDelimiter ++ rest)) (omega arith) h
+
+  -- so the readings that are written are sent for the word.
+  pub written-sends : (w : ℕ) → Sends m w (readings m w first)
+  unfolding readings
+  written-sends w =
+      subst (λ (ps : List ℕ). Forall₂ (Near m) (gaps _-_ ps) (edgeGaps (times ps))) (sym (transitions-listed (m .slow) w))
+      (listed-near (m .slow) (27 ∷ afterClock 27 (sentBits w))
+      (ap (λ (ps : List ℕ). passes (m .slow) 1 (gaps _-_ ps)) (sym (transitions-listed (m .slow) w))
+      ∙ ap (passes (m .slow) 1) (transition-gaps (m .slow) w) ∙ page-passes (m .slow) (sentBits w) (sent-length w)))
+
+-- The last of a list with one more at its end.
+last-appended : (x y : ℕ) (l : List ℕ) → lastOf x (l ++ (y ∷ [])) ≡ y
+last-appended x y [] = refl
+last-appended x y (z ∷ l) = last-appended z y l
+
+-- The last reading is that of position 157.
+pub last-written : (m : LineMode) (w first : ℕ) → lastOf 0 (readings m w first) ≡ readingAt (m .spacing) first 157
+unfolding readings transitions
+last-written m w first =
+    ap (λ (ps : List ℕ). lastOf 0 (map (readingAt (m .spacing) first) ps))
+    (more-yes (hasTransition (m .slow) (sentBits w)) 156 (at-clock (m .slow) (sentBits w) 157 (omega arith) (omega arith) refl))
+    ∙ ap (lastOf 0) (map-append (readingAt (m .spacing) first) (positionsTo (hasTransition (m .slow) (sentBits w)) 156) (157 ∷ []))
+    ∙ last-appended 0 (readingAt (m .spacing) first 157) (map (readingAt (m .spacing) first) (positionsTo (hasTransition (m .slow) (sentBits w)) 156))
+
+-- There are as many as transitions.
+pub count-written : (m : LineMode) (w first : ℕ) → length (readings m w first) ≡ edgeCount m w
+unfolding readings edgeCount
+count-written m w first = length-map (transitions (m .slow) w) (readingAt (m .spacing) first)
+
+module _ (m : LineMode) (apart : Apart m) (clock : 4 * m .spacing < 2 ^ 32) (w first : ℕ) (word : w < 2 ^ 48) where
+  -- A written page is read, whatever follows it,
+  pub written-read : (at : ℕ) (rest : List ℕ)
+      → attemptOf m Fresh (readings m w first ++ rest) at
+      ≡ ends (pageRead w) (opensAt m (Dropping (readingAt (m .spacing) first 157)) rest (at + edgeCount m w))
+  written-read at rest =
+      page-answer m Fresh w (lastOf 0 (readings m w first)) at (readings m w first) rest
+      (fresh-reads m apart w word (readings m w first) (written-sends m first clock w))
+      ∙ ap₂ (λ (x n : ℕ). ends (pageRead w) (opensAt m (Dropping x) rest (at + n))) (last-written m w first) (count-written m w first)
+
+  -- and so it is by the read call at the place where the write call put it.
+  pub placed-read : (list : List ℕ) (place : ℕ) → edgeCount m w ≤ length list - place
+      → readIn m (placed m list place w first) place
+      ≡ ends (pageRead w) (opensAt m (Dropping (readingAt (m .spacing) first 157)) (drop (place + edgeCount m w) list) (place + edgeCount m w))
+  unfolding readIn
+  placed-read list place room =
+      let some = has-edges m list place w first word in
+      let head = length-take-le place list (omega arith) in
+      let tail = length-append (readings m w first) (drop (place + edgeCount m w) list) in
+      let count = count-written m w first in
+      let all = length-append (take place list) (readings m w first ++ drop (place + edgeCount m w) list) in
+      rw (le-ltb (length (placed m list place w first)) place (omega arith), ne-eqb place (length (placed m list place w first)) (λ e. omega arith))
+      (ap (λ (l : List ℕ). attemptOf m Fresh l place) (drop-at (take place list) (readings m w first ++ drop (place + edgeCount m w) list) place head)
+      ∙ written-read place (drop (place + edgeCount m w) list))
+
+-- The two calls, in a mode's numbers: where the write call answers a number, the read call from the same place on answers the page.
+in-mode : (m : LineMode) → Apart m → 4 * m .spacing < 2 ^ 32 → (list : List ℕ) (place w first n : ℕ)
+    → saysIn m list place w ≡ number n → readIn m (leavesIn m list place w first) place .says ≡ pageRead w
+unfolding saysIn leavesIn
+in-mode m apart clock list place w first n h = by (isWord w) refl (hasRoom m list place w) refl h
+  where
+    by : (t : Bool) → isWord w ≡ t → (s : Bool) → hasRoom m list place w ≡ s
+        → cond t (cond s (number (edgeCount m w)) (refused Room)) (refused Wide) ≡ number n
+        → readIn m (cond (t && s) (placed m list place w first) list) place .says ≡ pageRead w
+    by false e s f h = absurd (let k = ap (λ (a : Said). a .kind) h in omega arith)
+    by true e false f h = absurd (let k = ap (λ (a : Said). a .kind) h in omega arith)
+    by true e true f h =
+        ap (λ (a : Attempt). a .says)
+        (placed-read m apart clock w first (ltb-true w (2 ^ 48) e) list place (leb-true (edgeCount m w) (length list - place) f))
+
+-- The two calls, for every mode's number: a page that was written is read back from where it was written.
+pub write-then-read : (mode : ℕ) (list : List ℕ) (place w first n : ℕ)
+    → writeSays mode list place w ≡ number n → readOf mode (writeLeaves mode list place w first) place .says ≡ pageRead w
+unfolding writeSays writeLeaves readOf modeOf
+write-then-read mode list place w first n h = by (eqb mode 0) (eqb mode 1) h
+  where
+    by : (a b : Bool) → saysBy (cond a (Known hsmMode) (cond b (Known lsmMode) Unknown)) (λ m. saysIn m list place w) ≡ number n
+        → readBy (cond a (Known hsmMode) (cond b (Known lsmMode) Unknown))
+        (leavesBy (cond a (Known hsmMode) (cond b (Known lsmMode) Unknown)) (λ m. leavesIn m list place w first) list) place .says ≡ pageRead w
+    by true b h = in-mode hsmMode hsm-apart (omega arith) list place w first n h
+    by false true h = in-mode lsmMode lsm-apart (omega arith) list place w first n h
+    by false false h = absurd (let k = ap (λ (a : Said). a .kind) h in omega arith)

@@ -1,0 +1,82 @@
+-- What the write call says and leaves: Wide, no room, and room, in a mode's numbers; and the lent tail put back into its list.
+use mathlib.Core.Path.{_≡_, ap, ap₂, _∙_, subst}
+use mathlib.Core.Bool.{Bool, true, false, cond}
+use mathlib.Core.List.{List, _++_, append-nil}
+use Prim.Native.Nat.{ℕ, _+_, _-_, _^_, _<_, _≤_}
+use native.Mathlib.Omega.{arith}
+use lib.ListN.{length, take, drop, length-drop, drop-of-length-le}
+use lib.Seq.{drop-drop}
+use borrow.Author.Tests.{lt-ltb, le-ltb, le-leb, lt-leb}
+use Rattle.answers.specs.Answers.{Said, refused, number}
+use Rattle.answers.specs.declared.Refusal.the-variants.{Room, Wide}
+use Rattle.line_mode.specs.declared.modes.LineMode.{LineMode}
+use Rattle.line_writer.specs.Transitions.{readings, edgeCount, transitions}
+use Rattle.line_writer.specs.Writing.{placed, saysIn, leavesIn}
+use Rattle.line_writer.proofs.LentTail.{whole-tail}
+use Rattle.line_writer.proofs.EdgeCount.{edge-count}
+
+module _ (m : LineMode) (list : List ℕ) (place w first : ℕ) where
+  -- What a call says and leaves.
+  pub record Outcome (says : Said) (leaves : List ℕ) : Type 0 where
+    pub said : says ≡ saysIn m list place w
+    pub left : leaves ≡ leavesIn m list place w first
+
+  pub wide : 2 ^ 48 ≤ w → Outcome (refused Wide) list
+  unfolding saysIn leavesIn
+  wide h = record { said = rw (le-ltb w (2 ^ 48) h); left = rw (le-ltb w (2 ^ 48) h) }
+
+  module _ (fits : w < 2 ^ 48) where
+    short : length list - place < edgeCount m w → Outcome (refused Room) list
+    unfolding saysIn leavesIn
+    short h =
+        record {
+          said = rw (lt-ltb w (2 ^ 48) fits, lt-leb (edgeCount m w) (length list - place) h);
+          left = rw (lt-ltb w (2 ^ 48) fits, lt-leb (edgeCount m w) (length list - place) h);
+        }
+
+    -- A page has edgeCount, so a place past the end has no room.
+    pub has-edges : 0 < edgeCount m w
+    unfolding edgeCount
+    has-edges = let e = edge-count (m .slow) w fits in let l = least (m .slow) in omega arith
+      where
+        least : (t : Bool) → 81 ≤ cond t 86 81
+        least true = omega arith
+        least false = omega arith
+
+    pub past : length list < place → Outcome (refused Room) list
+    past h = let e = has-edges in short (omega arith)
+
+    -- The number of transitions, as the code has found it.
+    module _ (count : ℕ) (counted : count ≡ length (transitions (m .slow) w)) where
+      pub too-few : length list - place < count → Outcome (refused Room) list
+      unfolding edgeCount
+      too-few h = short (subst (λ (n : ℕ). length list - place < n) counted h)
+
+      module _ (room : count ≤ length list - place) where
+        -- The part of the list that is lent is its tail, and has room for the page.
+        lent : take (length list - place) (drop place list) ≡ drop place list
+        lent = whole-tail list place
+
+        pub lends : edgeCount m w ≤ length (take (length list - place) (drop place list))
+        unfolding edgeCount
+        lends = rw lent (omega (arith, length-drop place list))
+
+        -- Put back, it leaves the page in the list.
+        pub written : (tail : List ℕ) → tail ≡ readings m w first ++ drop (edgeCount m w) (take (length list - place) (drop place list))
+            → Outcome (number count) (take place list ++ (tail ++ drop (length list - place) (drop place list)))
+        unfolding saysIn leavesIn edgeCount
+        written tail e =
+            record {
+              said = rw (lt-ltb w (2 ^ 48) fits, le-leb (edgeCount m w) (length list - place) enough) (ap number counted);
+              left = rw (lt-ltb w (2 ^ 48) fits, le-leb (edgeCount m w) (length list - place) enough) put-back;
+            }
+          where
+            enough : edgeCount m w ≤ length list - place
+            enough = omega arith
+
+            put-back : take place list ++ (tail ++ drop (length list - place) (drop place list)) ≡ placed m list place w first
+            put-back =
+                ap₂ (λ (t r : List ℕ). take place list ++ (t ++ r)) (e ∙ ap (λ (t : List ℕ). readings m w first ++ drop (edgeCount m w) t) lent)
+                (drop-of-length-le (drop place list) {i = length list - place} (omega (arith, length-drop place list)))
+                ∙ ap (λ (t : List ℕ). take place list ++ t) (append-nil (readings m w first ++ drop (edgeCount m w) (drop place list))
+                ∙ ap (λ (t : List ℕ). readings m w first ++ t) (drop-drop (edgeCount m w) place list))

@@ -1,0 +1,52 @@
+// Where a page has its transitions, and how many.
+ghost use mathlib.Core.Path.{_≡_};
+ghost use Prim.Native.Nat.{_/_, _^_, _<_, _≤_};
+ghost use Rattle.page_word.specs.Word.{odd};
+ghost use Rattle.page_check_bits.specs.CheckBits.{checkBits};
+ghost use Rattle.line_writer.specs.Transitions.{sentBits, hasTransition, transitions};
+ghost use lib.ListN.{length};
+
+// The delimiters: bit p is one where position p has a transition. A mask, since an array would be laid out anew at every use.
+const HSM_DELIMITER: u64 = 120123822;
+
+const LSM_DELIMITER: u64 = 98413566;
+
+// Whether the bit at a place is one.
+fn bit_at(number: u64, place: u32) -> bool
+    requires { ⌜ place < 64 ⌝ }
+    ensures { λ r. ⌜ r ≡ odd (number / 2 ^ place) ⌝ }
+{
+    (number >> place) % 2 == 1
+}
+
+// Whether a page has a transition at a position.
+pub(crate) fn transition_at(slow: bool, word: u64, check: u32, position: u32) -> bool
+    requires { ⌜ (check ≡ checkBits word) × (position ≤ 157) ⌝ }
+    ensures { λ r. ⌜ r ≡ hasTransition slow (sentBits word) position ⌝ }
+{
+    if position <= 26 {
+        if slow {
+            return bit_at(LSM_DELIMITER, position);
+        }
+        return bit_at(HSM_DELIMITER, position);
+    }
+    if position % 2 == 1 {
+        return true;
+    }
+    if position <= 122 {
+        return bit_at(word, (position - 28) / 2);
+    }
+    if position <= 154 {
+        return bit_at(check as u64, (154 - position) / 2);
+    }
+    false
+}
+
+// The number of a page's transitions: the delimiter's, 64 clocks, one for each one bit, and those at 155 and 157.
+pub(crate) fn edge_count(slow: bool, word: u64, check: u32) -> u32
+    requires { ⌜ (word < 2 ^ 48) × (check ≡ checkBits word) ⌝ }
+    ensures { λ r. ⌜ r ≡ length (transitions slow word) ⌝ }
+{
+    let ones = u64::count_ones(word) + u32::count_ones(check);
+    if slow { ones + 86 } else { ones + 81 }
+}

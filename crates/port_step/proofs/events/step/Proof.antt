@@ -1,0 +1,28 @@
+use mathlib.Core.Path.{refl}
+use borrow.Author.Needs.{needs}
+use Rattle.port_state.proofs.Dues.{as-due}
+use Rattle.port_step.specs.Steps.{stepOver}
+use Rattle.port_step.proofs.events.step.Statement.{statement}
+use Rattle.port_step.proofs.events.step.Tie as tie
+
+returns-2 : tie.Need-returns-2
+unfolding stepOver
+returns-2 c = as-due (c .tick .ensures) (simp (c .before .before .event2 .given .1))
+
+returns-6 : tie.Need-returns-6
+unfolding stepOver
+returns-6 c = as-due (c .write .ensures) (simp (c .before .before .event6 .given .1))
+
+pub step-spec : {M : Type 1} → statement M
+unfolding stepOver
+step-spec =
+    tie.close
+    (tie.spec
+    (λ c. search needs) (λ c κs. search needs) (λ c. search needs) (λ c κs. search needs) (λ c. search needs) (λ c κs. search needs) (λ c. search needs) (λ c κs. search needs) (λ c. search needs) (λ c κs. search needs) (λ c. search needs) (λ c κs. search needs) (λ c. search needs)
+    (λ c. as-due (c .edge .ensures) (simp (c .before .before .event .given .1)))
+    returns-2
+    (λ c. as-due (c .sent .ensures) (simp (c .before .before .event3 .given .1)))
+    (λ c. as-due (c .report .ensures) (simp (c .before .before .event4 .given .1)))
+    (λ c. as-due (c .read .ensures) (simp (c .before .before .event5 .given .1)))
+    returns-6
+    (λ c. rw (c .enum-told .given .1) (record { answer = refl; device = refl })))

@@ -1,0 +1,84 @@
+// A run of events as numbers, from a fresh device.
+ghost use mathlib.Core.Path.{_≡_};
+ghost use mathlib.Core.List.{_++_};
+ghost use Prim.Native.Nat.{_≤_};
+ghost use lib.ListN.{length, drop};
+ghost use Rattle.answers.specs.Answers.{said};
+ghost use Rattle.port_step.specs.Runs.{eventOf, eventsOf, answersTo, runSays, runLeaves};
+use crate::events::Event;
+use crate::events::step;
+use answers::Answer;
+use answers::Refusal;
+use port_state::Device;
+
+// An event as three numbers.
+fn event_of(kind: u64, clock: u64, argument: u64) -> Event
+    ensures { λ r. ⌜ r ≡ eventOf kind clock argument ⌝ }
+{
+    let reading = (clock % 4294967296) as u32;
+    if kind == 0 {
+        return Event::Edge { reading: reading };
+    }
+    if kind == 1 {
+        return Event::Tick {
+            reading: reading,
+            draw: argument,
+        };
+    }
+    if kind == 2 {
+        return Event::Sent { reading: reading };
+    }
+    if kind == 3 {
+        return Event::Report {
+            reading: reading,
+            up: argument != 0,
+        };
+    }
+    if kind == 4 {
+        return Event::Read {
+            reading: reading,
+            register: argument,
+        };
+    }
+    if kind == 5 {
+        return Event::Write {
+            reading: reading,
+            register: argument / 65536,
+            value: (argument % 65536) as u16,
+        };
+    }
+    Event::Unnamed
+}
+
+// Puts the answers at the head of a list that has room for them.
+fn answer_all(events: &[u64], answers: &mut [u64])
+    requires { ⌜ length (eventsOf (now events)) ≤ length (now answers) ⌝ }
+    ensures { λ _. ⌜ now (answers .exit) ≡ answersTo (now (events .entry)) ++ drop (length (eventsOf (now (events .entry)))) (now (answers .entry)) ⌝ }
+{
+    let count = events.len() / 3;
+    let mut device = Device::fresh();
+    let mut taken: usize = 0;
+    let mut place: usize = 0;
+    while taken < count {
+        let event = event_of(events[place], events[place + 1], events[place + 2]);
+        let reply = step(device, event);
+        let answer = reply.answer;
+        answers[taken] = answer.packed();
+        device = reply.device;
+        taken += 1;
+        place += 3;
+    }
+}
+
+// Takes events from a fresh device and answers each.
+pub fn run(events: &[u64], answers: &mut [u64]) -> Answer
+    ensures says { λ r. ⌜ said r ≡ runSays (now (events .entry)) (now (answers .entry)) ⌝ }
+    ensures leaves { λ _. ⌜ now (answers .exit) ≡ runLeaves (now (events .entry)) (now (answers .entry)) ⌝ }
+{
+    let count = events.len() / 3;
+    if answers.len() < count {
+        return Answer::Refused(Refusal::Room);
+    }
+    answer_all(events, answers);
+    Answer::Number(count as u64)
+}

@@ -1,0 +1,12 @@
+use borrow.Author.Needs.{needs}
+use Rattle.port_timing.specs.OwnPages.{echoingPage}
+use Rattle.port_timing.proofs.own_pages.echoing_page.Statement.{statement}
+use Rattle.port_timing.proofs.own_pages.echoing_page.Tie as tie
+
+pub echoing-page-spec : {M : Type 1} → statement M
+unfolding echoingPage
+echoing-page-spec =
+    tie.close
+    (tie.spec
+    (λ c κs. search needs) (λ c κs. search needs) (λ c κs. search needs)
+    (λ c. simp (← c .set2 .ensures, ← c .before .set .ensures, ← c .before .before .get .ensures)))

@@ -1,0 +1,14 @@
+use borrow.Author.Needs.{needs}
+use Rattle.port_state.proofs.Dues.{as-due}
+use Rattle.port_timing.proofs.sending.settle.Statement.{statement}
+use Rattle.port_timing.proofs.sending.settle.Tie as tie
+
+returns : tie.Need-returns
+returns c = as-due (c .answered .ensures) (simp (c .before .before .before .before .before .resolve .ensures .0))
+
+pub settle-spec : {M : Type 1} → statement M
+settle-spec =
+    tie.close
+    (tie.spec
+    (λ c κs. search needs) (λ c κs. search needs)
+    returns)

@@ -1,0 +1,89 @@
+// A link report.
+ghost use mathlib.Core.Path.{_≡_};
+ghost use Rattle.port_state.specs.declared.State.the-variants.{Up, CheckLink};
+ghost use Rattle.port_state.specs.Memory.{Meets, withState};
+ghost use Rattle.port_timing.specs.Reports.{hasRate, reportIn, reportDue};
+use answers::Answer;
+use port_state::Device;
+use port_state::Reply;
+use port_state::State;
+use port_state::answered;
+use port_state::enter_break;
+
+// The link is up. The latch of 7.513 stays as it was: only a read sets it.
+fn come_up(device: Device) -> Device
+    ensures { λ r. ⌜ r ≡ withState Up device ⌝ }
+{
+    let advertised = device.advertised;
+    let partner = device.partner;
+    let flags = device.flags;
+    let talk = device.talk;
+    let outcome = device.outcome;
+    let reader = device.reader;
+    Device {
+        state: State::Up,
+        advertised: advertised,
+        partner: partner,
+        flags: flags,
+        talk: talk,
+        outcome: outcome,
+        reader: reader,
+    }
+}
+
+// Whether an outcome has a rate.
+fn has_rate(outcome: Answer) -> bool
+    ensures { λ r. ⌜ r ≡ hasRate outcome ⌝ }
+{
+    match outcome {
+        Answer::Settled { ability, master } => true,
+        Answer::Nothing => false,
+        Answer::Refused(refusal) => false,
+        Answer::Page(word) => false,
+        Answer::Order(word) => false,
+        Answer::Value(value) => false,
+        Answer::Number(number) => false,
+        Answer::Quiet => false,
+        Answer::Unfit => false,
+    }
+}
+
+// A report in Check-link.
+fn report_in_check_link(device: Device, up: bool, reading: u32) -> Device
+    ensures { λ r. ⌜ r ≡ reportIn CheckLink up reading device ⌝ }
+{
+    let outcome = device.outcome;
+    if up {
+        if has_rate(outcome) {
+            return come_up(device);
+        }
+        return device;
+    }
+    device
+}
+
+// A report in Up.
+fn report_in_up(device: Device, up: bool, reading: u32) -> Device
+    ensures { λ r. ⌜ r ≡ reportIn Up up reading device ⌝ }
+{
+    if up {
+        return device;
+    }
+    enter_break(device, reading)
+}
+
+// The event "link report".
+pub fn report(device: Device, reading: u32, up: bool) -> Reply
+    ensures { λ r. ⌜ Meets r (reportDue up reading device) ⌝ }
+{
+    let state = device.state;
+    match state {
+        State::Off => answered(Answer::Nothing, device),
+        State::Break => answered(Answer::Nothing, device),
+        State::Ability => answered(Answer::Nothing, device),
+        State::Ack => answered(Answer::Nothing, device),
+        State::Complete => answered(Answer::Nothing, device),
+        State::CheckLink => answered(Answer::Nothing, report_in_check_link(device, up, reading)),
+        State::Up => answered(Answer::Nothing, report_in_up(device, up, reading)),
+    }
+}

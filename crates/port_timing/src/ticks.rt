@@ -1,0 +1,131 @@
+// A tick: timers are looked at, and pages ordered, on ticks only.
+ghost use mathlib.Core.Path.{_≡_};
+ghost use Rattle.port_state.specs.declared.State.the-variants.{Break, CheckLink};
+ghost use Rattle.port_state.specs.Memory.{Meets};
+ghost use Rattle.port_timing.specs.Timers.{lowSpeed};
+ghost use Rattle.port_timing.specs.Ticks.{leavesBreak, holdsBack, mayOrder, orders, tickIn, tickDue};
+use crate::own_pages::echoing_page;
+use crate::own_pages::own_page;
+use crate::own_pages::word_of;
+use crate::profile::Profile;
+use crate::profile::inhibit_of;
+use crate::profile::low_speed;
+use crate::profile::run_out;
+use answers::Answer;
+use line_mode::time_between;
+use line_reader::Reader;
+use port_state::Device;
+use port_state::Reply;
+use port_state::State;
+use port_state::answered;
+use port_state::enter_break;
+
+// The break is over: the own page is made, and the device goes to Ability.
+fn leave_break(device: Device, reading: u32, draw: u64) -> Device
+    ensures { λ r. ⌜ r ≡ leavesBreak reading draw device ⌝ }
+{
+    let advertised = device.advertised;
+    let own = own_page(word_of(advertised), draw);
+    let mut talk = device.talk;
+    talk.own = own;
+    talk.heard = false;
+    talk.mark = reading;
+    let partner = device.partner;
+    let flags = device.flags;
+    let outcome = device.outcome;
+    Device {
+        state: State::Ability,
+        advertised: advertised,
+        partner: partner,
+        flags: flags,
+        talk: talk,
+        outcome: outcome,
+        reader: Reader::Fresh,
+    }
+}
+
+// Whether an attempt is open whose last edge is too young for an order.
+fn holds_back(quiet: u32, reader: Reader, reading: u32) -> bool
+    ensures { λ r. ⌜ r ≡ holdsBack quiet reader reading ⌝ }
+{
+    match reader {
+        Reader::Fresh => false,
+        Reader::Open { at, last, bits } => time_between(reading, last) < quiet,
+        Reader::Dropping { last } => false,
+    }
+}
+
+// Whether a page may be ordered.
+fn may_order(profile: Profile, device: Device, reading: u32) -> bool
+    ensures { λ r. ⌜ r ≡ mayOrder profile reading (device .talk) (device .reader) ⌝ }
+{
+    if device.talk.out {
+        return false;
+    }
+    let reader = device.reader;
+    if holds_back(profile.mode.quiet, reader, reading) {
+        return false;
+    }
+    if device.talk.heard {
+        return run_out(profile.silent, device.talk.mark, reading);
+    }
+    run_out(profile.wait, device.talk.mark, reading)
+}
+
+// Orders a page, if one may be.
+fn order(profile: Profile, device: Device, word: u64, reading: u32) -> Reply
+    ensures { λ r. ⌜ Meets r (orders profile reading word device) ⌝ }
+{
+    if may_order(profile, device, reading) {
+        let mut after = device;
+        after.talk.out = true;
+        return answered(Answer::Order(word), after);
+    }
+    answered(Answer::Nothing, device)
+}
+
+// A tick in Break.
+fn tick_in_break(profile: Profile, device: Device, reading: u32, draw: u64) -> Reply
+    ensures { λ r. ⌜ Meets r (tickIn Break profile reading draw device) ⌝ }
+{
+    if run_out(profile.breaking, device.talk.timer, reading) {
+        return answered(Answer::Nothing, leave_break(device, reading, draw));
+    }
+    answered(Answer::Nothing, device)
+}
+
+// A tick in Check-link.
+fn tick_in_check_link(profile: Profile, device: Device, reading: u32, draw: u64) -> Reply
+    ensures { λ r. ⌜ Meets r (tickIn CheckLink profile reading draw device) ⌝ }
+{
+    let outcome = device.outcome;
+    if run_out(inhibit_of(outcome), device.talk.timer, reading) {
+        return answered(Answer::Nothing, enter_break(device, reading));
+    }
+    answered(Answer::Nothing, device)
+}
+
+// A tick, over any profile.
+fn tick_by(profile: Profile, device: Device, reading: u32, draw: u64) -> Reply
+    ensures { λ r. ⌜ Meets r (tickDue profile reading draw device) ⌝ }
+{
+    let state = device.state;
+    let own = device.talk.own;
+    let held = device.talk.held;
+    match state {
+        State::Off => answered(Answer::Nothing, device),
+        State::Break => tick_in_break(profile, device, reading, draw),
+        State::Ability => order(profile, device, own, reading),
+        State::Ack => order(profile, device, echoing_page(own, held), reading),
+        State::Complete => order(profile, device, echoing_page(own, held), reading),
+        State::CheckLink => tick_in_check_link(profile, device, reading, draw),
+        State::Up => answered(Answer::Nothing, device),
+    }
+}
+
+// The event "tick", with a draw.
+pub fn tick(device: Device, reading: u32, draw: u64) -> Reply
+    ensures { λ r. ⌜ Meets r (tickDue lowSpeed reading draw device) ⌝ }
+{
+    tick_by(low_speed(), device, reading, draw)
+}

@@ -1,2 +1,0 @@
-pub mod PageWritten
-pub mod TablePages
