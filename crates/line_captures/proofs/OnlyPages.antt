@@ -10,7 +10,7 @@ use native.Mathlib.Omega.{arith}
 use lib.Dec.{eqb}
 use lib.Pow.{pow-pos}
 use borrow.Author.Tests.{eqb-true, eq-eqb}
-use Rattle.answers.specs.Answers.{Said, nothing, refused, pageRead}
+use Rattle.answers.specs.Answers.{Said, nothing, refused, pageRead, saying}
 use Rattle.answers.specs.declared.Refusal.the-variants.{Cut}
 use Rattle.page_check_bits.specs.CheckBits.{agrees}
 use Rattle.page_check_bits.proofs.WordBits.{sumOf}
@@ -35,7 +35,7 @@ use Rattle.line_captures.proofs.ReadBits.{pushed-all, agreeing}
 module _ (slow : Bool) (p bits reading : ℕ) where
   pub data Edge (j : Judgement) : Type 0 where
     cut : j ≡ Quiet → goesOn slow p bits reading j ≡ bring (refused Cut) (Open 1 reading 0) → Edge j
-    wrong : (n : ℕ) → 1 ≤ n → n ≤ 3 → goesOn slow p bits reading j ≡ bring (refused n) (Dropping reading) → Edge j
+    wrong : (n : ℕ) → 1 ≤ n → n ≤ 3 → goesOn slow p bits reading j ≡ bring (saying n 0) (Dropping reading) → Edge j
     passing : (k : ℕ) → j ≡ Positions k → asks slow p k ≡ true
         → goesOn slow p bits reading j ≡ bring nothing (Open (p + k) reading (withBit p k bits)) → Edge j
     ending : (k : ℕ) → j ≡ Positions k → asks slow p k ≡ true → p + k ≡ 157 → agrees (withBit p k bits) ≡ true

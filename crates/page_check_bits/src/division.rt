@@ -7,12 +7,10 @@ ghost use Rattle.page_check_bits.specs.CheckBits.{remainder, numeral, ch
 ghost use Rattle.page_check_bits.specs.Checked.{checked};
 use answers::Answer;
 use answers::Refusal;
-
-// 2^48: the first number that is no word.
-const WIDE: u64 = 281474976710656;
+use page_word::WIDE;
 
 // x^16 + x^15 + x^2 + 1, as bits.
-const GENERATOR: u32 = 98309;
+const GENERATOR: u32 = 0x18005;
 
 // What the register holds after the first bits of a number have entered it, lowest first: the remainder of these bits.
 fn register_after(bits: u64, count: u32) -> u32
@@ -25,7 +23,7 @@ fn register_after(bits: u64, count: u32) -> u32
     while i < count {
         let bit = (rest % 2) as u32;
         let shifted = (register << 1) ^ (bit << 16);
-        if shifted < 65536 {
+        if shifted < 0x10000 {
             register = shifted;
         } else {
             register = shifted ^ GENERATOR;

@@ -10,9 +10,7 @@ use crate::roles::own_role;
 use answers::Answer;
 use answers::Refusal;
 use page_word::Field;
-
-// 2^48: the first number that is no word.
-const WIDE: u64 = 281474976710656;
+use page_word::WIDE;
 
 // The numbers of the abilities, the preferred first.
 const RATE_ORDER: [u8; 9] = [6, 5, 4, 3, 2, 0, 1, 9, 22];

@@ -3,6 +3,9 @@ ghost use mathlib.Core.Path.{_≡_};
 ghost use Prim.Native.Nat.{_+_, _≤_};
 ghost use Rattle.page_word.specs.Fields.{part, withPart, fieldOf, withField};
 
+// 2^48: the first number that is no word.
+pub const WIDE: u64 = 0x1000000000000;
+
 // The fields, from D0 on.
 pub enum Field {
     Selector,

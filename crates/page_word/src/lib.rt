@@ -2,5 +2,6 @@
 mod fields;
 
 pub use fields::Field;
+pub use fields::WIDE;
 pub use fields::get;
 pub use fields::set;
