@@ -1,5 +1,5 @@
 -- The clock's shift: the time between two readings is the same if both are later by δ modulo 2^32. So a reader whose stored reading is later by
--- δ says the same at an edge that is.
+-- δ hears the same at an edge that is.
 use mathlib.Core.Path.{_≡_, refl, ap, _∙_}
 use mathlib.Core.Bool.{Bool, true, false, cond}
 use Prim.Native.Nat.{ℕ, _+_, _-_, _%_, _^_, _<_}
@@ -7,18 +7,19 @@ use native.Mathlib.Nat.{mod-lt}
 use native.Mathlib.Omega.{arith}
 use lib.Dec.{eqb}
 use lib.Pow.{pow-pos}
-use Rattle.answers.specs.Answers.{nothing, refused, pageRead}
-use Rattle.answers.specs.declared.Refusal.the-variants.{Gap, Check}
 use Rattle.page_check_bits.specs.CheckBits.{agrees}
 use Rattle.line_mode.specs.declared.modes.LineMode.{LineMode}
 use Rattle.line_mode.specs.declared.modes.Judgement.{Judgement}
 use Rattle.line_mode.specs.declared.modes.Judgement.the-variants.{Positions, Quiet, Unfit}
+use Rattle.line_reader.specs.declared.endings.Ending.the-variants.{Good, Gap, Check}
+use Rattle.line_reader.specs.declared.endings.Heard.the-variants.{Nothing, Ended}
 use Rattle.line_reader.specs.declared.reader.Reader.{Reader}
 use Rattle.line_reader.specs.declared.reader.Reader.the-variants.{Fresh, Open, Dropping}
+use Rattle.line_reader.specs.declared.reader.Step.{Step}
 use Rattle.line_mode.specs.Clock.{timeBetween}
 use Rattle.line_mode.specs.Gaps.{judgementOf}
 use Rattle.line_reader.specs.Pattern.{asks}
-use Rattle.line_reader.specs.Reading.{Brings, bring, withBit, arrives, goesOn, dropsOn, edgeOf}
+use Rattle.line_reader.specs.Reading.{step, withBit, arrives, goesOn, dropsOn, edgeOf}
 
 -- A reading d later than another.
 pub time-of-distance : (a d : ℕ) → d < 2 ^ 32 → timeBetween ((a + d) % 2 ^ 32) (a % 2 ^ 32) ≡ d
@@ -45,37 +46,37 @@ later δ (Open at last bits) = Open at ((last + δ) % 2 ^ 32) bits
 later δ (Dropping last) = Dropping ((last + δ) % 2 ^ 32)
 
 -- What an edge brings, with that reader.
-abbrev pub bringsLater : ℕ → Brings → Brings
-bringsLater δ b = bring (b .says) (later δ (b .reader))
+abbrev pub stepLater : ℕ → Step → Step
+stepLater δ b = step (b .heard) (later δ (b .reader))
 
 -- A choice between two, later.
-choice-later : (δ : ℕ) (t : Bool) (b c : Brings) → cond t (bringsLater δ b) (bringsLater δ c) ≡ bringsLater δ (cond t b c)
+choice-later : (δ : ℕ) (t : Bool) (b c : Step) → cond t (stepLater δ b) (stepLater δ c) ≡ stepLater δ (cond t b c)
 choice-later δ true b c = refl
 choice-later δ false b c = refl
 
 -- What a gap brings, once it is judged, has nothing to do with the reading but that it is stored.
-arrives-later : (δ at bits reading : ℕ) → arrives at bits ((reading + δ) % 2 ^ 32) ≡ bringsLater δ (arrives at bits reading)
+arrives-later : (δ at bits reading : ℕ) → arrives at bits ((reading + δ) % 2 ^ 32) ≡ stepLater δ (arrives at bits reading)
 unfolding arrives
 arrives-later δ at bits reading =
-    choice-later δ (eqb at 157) (bring (cond (agrees bits) (pageRead (bits % 2 ^ 48)) (refused Check)) (Dropping reading)) (bring nothing (Open at reading bits))
+    choice-later δ (eqb at 157) (step (Ended (cond (agrees bits) (Good (bits % 2 ^ 48)) Check)) (Dropping reading)) (step Nothing (Open at reading bits))
 
 goes-on-later : (δ : ℕ) (slow : Bool) (at bits reading : ℕ) (j : Judgement)
-    → goesOn slow at bits ((reading + δ) % 2 ^ 32) j ≡ bringsLater δ (goesOn slow at bits reading j)
+    → goesOn slow at bits ((reading + δ) % 2 ^ 32) j ≡ stepLater δ (goesOn slow at bits reading j)
 unfolding goesOn
 goes-on-later δ slow at bits reading Quiet = refl
 goes-on-later δ slow at bits reading Unfit = refl
 goes-on-later δ slow at bits reading (Positions k) =
-    ap (λ (b : Brings). cond (asks slow at k) b (bring (refused Gap) (Dropping ((reading + δ) % 2 ^ 32)))) (arrives-later δ (at + k) (withBit at k bits) reading)
-    ∙ choice-later δ (asks slow at k) (arrives (at + k) (withBit at k bits) reading) (bring (refused Gap) (Dropping reading))
+    ap (λ (b : Step). cond (asks slow at k) b (step (Ended Gap) (Dropping ((reading + δ) % 2 ^ 32)))) (arrives-later δ (at + k) (withBit at k bits) reading)
+    ∙ choice-later δ (asks slow at k) (arrives (at + k) (withBit at k bits) reading) (step (Ended Gap) (Dropping reading))
 
-drops-on-later : (δ reading : ℕ) (j : Judgement) → dropsOn ((reading + δ) % 2 ^ 32) j ≡ bringsLater δ (dropsOn reading j)
+drops-on-later : (δ reading : ℕ) (j : Judgement) → dropsOn ((reading + δ) % 2 ^ 32) j ≡ stepLater δ (dropsOn reading j)
 unfolding dropsOn
 drops-on-later δ reading Quiet = refl
 drops-on-later δ reading Unfit = refl
 drops-on-later δ reading (Positions k) = refl
 
--- An edge later by δ to a reader later by δ: the same is said, and the reader afterwards is later by δ.
-pub edge-later : (m : LineMode) (δ : ℕ) (r : Reader) (reading : ℕ) → edgeOf m (later δ r) ((reading + δ) % 2 ^ 32) ≡ bringsLater δ (edgeOf m r reading)
+-- An edge later by δ to a reader later by δ: the same is heard, and the reader afterwards is later by δ.
+pub edge-later : (m : LineMode) (δ : ℕ) (r : Reader) (reading : ℕ) → edgeOf m (later δ r) ((reading + δ) % 2 ^ 32) ≡ stepLater δ (edgeOf m r reading)
 unfolding edgeOf
 edge-later m δ Fresh reading = refl
 edge-later m δ (Open at last bits) reading =

@@ -1,4 +1,4 @@
-use mathlib.Core.Path.{sym, refl, _∙_}
+use mathlib.Core.Path.{sym, _∙_}
 use borrow.Author.Needs.{needs}
 use borrow.Author.Tests.{eq-eqb, ne-eqb}
 use Rattle.line_reader.specs.Reading.{arrives}
@@ -15,4 +15,4 @@ arrive-spec =
     (λ c. rw (eq-eqb _ 157 (c .before .before .before .if1 .taken), sym (c .before .before .bits-agree .ensures) ∙ c .before .if2 .taken) (c .dropped .ensures))
     (λ c κs. search needs)
     (λ c. rw (eq-eqb _ 157 (c .before .before .before .if1 .taken), sym (c .before .before .bits-agree .ensures) ∙ c .before .if2 .left) (c .dropped2 .ensures))
-    (λ c. rw (ne-eqb _ 157 (c .if1 .left)) (record { answer = refl; reader = refl })))
+    (λ c. rw (ne-eqb _ 157 (c .if1 .left))))
