@@ -14,11 +14,11 @@ use line_reader::Reader;
 fn with_lasting(device: Device, lasting: Lasting) -> Device
     ensures { λ r. ⌜ r ≡ withLasting lasting device ⌝ }
 {
-    let state = device.state;
+    let kept = device.state;
     let link = device.link;
     Device {
         lasting: lasting,
-        state: state,
+        state: kept,
         link: link,
     }
 }
@@ -27,10 +27,10 @@ fn with_link(device: Device, link: Link) -> Device
     ensures { λ r. ⌜ r ≡ withLink link device ⌝ }
 {
     let lasting = device.lasting;
-    let state = device.state;
+    let kept = device.state;
     Device {
         lasting: lasting,
-        state: state,
+        state: kept,
         link: link,
     }
 }
@@ -78,13 +78,13 @@ pub fn with_partner(device: Device, partner: PageRegisters) -> Device
     let talk = link.talk;
     let outcome = link.outcome;
     let reader = link.reader;
-    let changed = Link {
+    let loaded = Link {
         partner: partner,
         talk: talk,
         outcome: outcome,
         reader: reader,
     };
-    with_link(device, changed)
+    with_link(device, loaded)
 }
 
 pub fn with_outcome(device: Device, outcome: Outcome) -> Device
@@ -94,13 +94,13 @@ pub fn with_outcome(device: Device, outcome: Outcome) -> Device
     let partner = link.partner;
     let talk = link.talk;
     let reader = link.reader;
-    let changed = Link {
+    let resolved = Link {
         partner: partner,
         talk: talk,
         outcome: outcome,
         reader: reader,
     };
-    with_link(device, changed)
+    with_link(device, resolved)
 }
 
 pub fn with_reader(device: Device, reader: Reader) -> Device
@@ -110,13 +110,13 @@ pub fn with_reader(device: Device, reader: Reader) -> Device
     let partner = link.partner;
     let talk = link.talk;
     let outcome = link.outcome;
-    let changed = Link {
+    let moved = Link {
         partner: partner,
         talk: talk,
         outcome: outcome,
         reader: reader,
     };
-    with_link(device, changed)
+    with_link(device, moved)
 }
 
 // The own page.

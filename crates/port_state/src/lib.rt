@@ -151,11 +151,11 @@ impl Device {
             received: false,
             fault: false,
         };
-        let lasting = Lasting {
+        let unwritten = Lasting {
             advertised: no_page(),
             flags: flags,
         };
-        without_link(lasting, State::Off, 0)
+        without_link(unwritten, State::Off, 0)
     }
 }
 
