@@ -26,7 +26,7 @@ use Rattle.port_state.specs.declared.Device.{Device}
 use Rattle.port_state.specs.Memory.{Due, due, freshDevice, withReader, wordOf}
 use Rattle.port_registers.specs.Registers.{registerOf, readDue, commanded, writeDue}
 use Rattle.port_timing.specs.OwnPages.{nonceFor, ownPage, echoingPage}
-use Rattle.port_hearing.specs.Edges.{beyondAckAndEcho, pageInAbility, pageInAck, pageIn, listened, edgeDue}
+use Rattle.port_hearing.specs.Edges.{beyondAckAndEcho, pageInAbility, pageInAck, pageIn, hears, edgeDue}
 use Rattle.port_timing.specs.Ticks.{mayOrder, orders, tickDue}
 use Rattle.port_timing.specs.Sending.{counted, sentDue}
 use Rattle.port_timing.specs.Reports.{reportDue}
@@ -51,14 +51,14 @@ no-register-written : (reading : ℕ) (d : Device) → stepDue (Write reading 51
 unfolding stepOver writeDue registerOf
 no-register-written reading d = refl
 
-nothing-out : (reading : ℕ) (d : Device) → d .state ≡ Ack → d .talk .out ≡ false → stepDue (Sent reading) d ≡ due (refused Turn) d
+nothing-out : (reading : ℕ) (d : Device) → d .state ≡ Ack → d .link .talk .out ≡ false → stepDue (Sent reading) d ≡ due (refused Turn) d
 unfolding stepOver sentDue
 nothing-out reading d state out = rw (state, out)
 
 -- A device that is another but for its reader.
-but-for-reader : (reader : Reader) (d e : Device) → d .state ≡ e .state → d .advertised ≡ e .advertised → d .partner ≡ e .partner → d .flags ≡ e .flags
-    → d .talk ≡ e .talk → d .outcome ≡ e .outcome → d .reader ≡ reader → d ≡ withReader reader e
-but-for-reader reader d e s a p f t o r = let whole : withReader (d .reader) d ≡ withReader reader e = cc in whole
+but-for-reader : (reader : Reader) (d e : Device) → d .state ≡ e .state → d .lasting .advertised ≡ e .lasting .advertised → d .link .partner ≡ e .link .partner → d .lasting .flags ≡ e .lasting .flags
+    → d .link .talk ≡ e .link .talk → d .link .outcome ≡ e .link .outcome → d .link .reader ≡ reader → d ≡ withReader reader e
+but-for-reader reader d e s a p f t o r = let whole : withReader (d .link .reader) d ≡ withReader reader e = cc in whole
 
 -- What belongs to the link in Ability: the own page, and a mark "waiting" since the break timer was out.
 abbrev talkWaiting : Talk
@@ -69,18 +69,18 @@ unfolding afterAll stepOver tickDue writeDue registerOf commanded ownPage nonceF
 talk-before = refl
 
 talk-after : afterAll freshDevice (toAbility ++ pageFrom 8001000 0xA90002) .talk ≡ talkWaiting
-unfolding afterAll stepOver tickDue writeDue registerOf commanded ownPage nonceFor wordOf part withPart edgeDue listened edgeOf goesOn dropsOn judgementOf asks always byBit arrives isClock agrees checkBits checkList remainder xor readings transitions positionsTo hasTransition sentBits pageIn pageInAbility
+unfolding afterAll stepOver tickDue writeDue registerOf commanded ownPage nonceFor wordOf part withPart edgeDue hears edgeOf goesOn dropsOn judgementOf asks always byBit arrives isClock agrees checkBits checkList remainder xor readings transitions positionsTo hasTransition sentBits pageIn pageInAbility
 talk-after = refl
 
 -- A page with another selector in Ability leaves all of the device but the reader.
 stays : afterAll freshDevice (toAbility ++ pageFrom 8001000 0xA90002) ≡ withReader (Dropping 8125800) (afterAll freshDevice toAbility)
-unfolding afterAll stepOver tickDue writeDue registerOf commanded ownPage nonceFor wordOf part withPart edgeDue listened edgeOf goesOn dropsOn judgementOf asks always byBit arrives isClock agrees checkBits checkList remainder xor readings transitions positionsTo hasTransition sentBits pageIn pageInAbility
+unfolding afterAll stepOver tickDue writeDue registerOf commanded ownPage nonceFor wordOf part withPart edgeDue hears edgeOf goesOn dropsOn judgementOf asks always byBit arrives isClock agrees checkBits checkList remainder xor readings transitions positionsTo hasTransition sentBits pageIn pageInAbility
 stays =
     but-for-reader (Dropping 8125800) (afterAll freshDevice (toAbility ++ pageFrom 8001000 0xA90002)) (afterAll freshDevice toAbility)
     refl refl refl refl (talk-after ∙ sym talk-before) refl refl
 
 pub each-refusal : EachRefusal
-unfolding afterAll saysTo stepOver tickDue writeDue sentDue reportDue registerOf commanded ownPage echoingPage nonceFor wordOf beyondAckAndEcho part withPart edgeDue listened edgeOf goesOn dropsOn judgementOf asks always byBit arrives isClock agrees checkBits checkList remainder xor readings transitions positionsTo hasTransition sentBits pageIn pageInAbility pageInAck mayOrder orders counted resolutionOf hasAbility roleOf writeSays writeLeaves saysIn leavesIn edgeCount modeOf readOf readIn runSays runLeaves eventsOf eventOf listing refusedLine
+unfolding afterAll saysTo stepOver tickDue writeDue sentDue reportDue registerOf commanded ownPage echoingPage nonceFor wordOf beyondAckAndEcho part withPart edgeDue hears edgeOf goesOn dropsOn judgementOf asks always byBit arrives isClock agrees checkBits checkList remainder xor readings transitions positionsTo hasTransition sentBits pageIn pageInAbility pageInAck mayOrder orders counted resolutionOf hasAbility roleOf writeSays writeLeaves saysIn leavesIn edgeCount modeOf readOf readIn runSays runLeaves eventsOf eventOf listing refusedLine
 each-refusal =
     record {
       gap = record { run = record { said = refl; left = refl }; left = refl };

@@ -16,7 +16,8 @@ use Rattle.line_reader.specs.declared.reader.Reader.the-variants.{Open, Droppin
 use Rattle.line_captures.specs.Captures.{readOf}
 use Rattle.port_state.specs.declared.State.{State}
 use Rattle.port_state.specs.declared.State.the-variants.{Break, Ability, CheckLink}
-use Rattle.port_state.specs.Memory.{freshDevice, withReader}
+use Rattle.port_state.specs.Memory.{freshDevice}
+use Rattle.port_state.specs.Changes.{withReader}
 use Rattle.port_step.specs.declared.events.Event.{Event}
 use Rattle.port_step.specs.declared.events.Event.the-variants.{Edge, Tick, Sent, Report, Read, Write}
 use Rattle.port_step.specs.Steps.{stepDue, saysTo, afterAll}
@@ -32,7 +33,7 @@ pub record Run (events : List Event) (says : List Said) (state : State) : Type 0
 -- Of an attempt that is refused in Ability: what is said, "attempt ended; state as above", and the reader that is left.
 pub record Ended (events : List Event) (refusal : Refusal) (reader : Reader) : Type 0 where
   pub run : Run events (refused refusal ∷ []) Ability
-  pub left : afterAll freshDevice events .reader ≡ reader
+  pub left : afterAll freshDevice events .link .reader ≡ reader
 
 -- One more event after others: it is refused with this number, and the device is kept as it was, all of it.
 pub record Kept (past : List Event) (event : Event) (refusal : Refusal) : Type 0 where

@@ -126,5 +126,5 @@ pub record Same (d : Device) (later : List Event) (d′ : Device) (later′ : Li
 -- 7.514-7.516 are the same.
 abbrev pub NoPageOutlivesItsLink : Type 0
 NoPageOutlivesItsLink =
-    (first second : Module) (later : List Event) → deviceOf first .advertised ≡ deviceOf second .advertised
+    (first second : Module) (later : List Event) → deviceOf first .lasting .advertised ≡ deviceOf second .lasting .advertised
     → Same (deviceOf first) later (deviceOf second) (map (shiftedBy (difference first second)) later)
