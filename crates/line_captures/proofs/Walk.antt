@@ -14,7 +14,7 @@ use borrow.Author.Tests.{ltb-true, ltb-false, lt-ltb, le-ltb, eqb-true, eqb-fals
 use Rattle.page_check_bits.specs.CheckBits.{agrees}
 use Rattle.line_mode.specs.declared.modes.LineMode.{LineMode}
 use Rattle.line_mode.specs.declared.modes.Found.{Found}
-use Rattle.line_mode.specs.declared.modes.Found.the-variants.{Known}
+use Rattle.line_mode.specs.declared.modes.Found.the-variants.{Known, Unknown}
 use Rattle.line_mode.specs.declared.modes.Judgement.{Judgement}
 use Rattle.line_mode.specs.declared.modes.Judgement.the-variants.{Positions, Quiet, Unfit}
 use Rattle.line_reader.specs.declared.endings.Ending.{Ending}
@@ -241,6 +241,26 @@ module _ (m : LineMode) (capture : List ℕ) (place : ℕ) (h : length capture �
       by true e u f = refl
       by false e true f = refl
       by false e false f = absurd (eqb-false place (length capture) f (let l = ltb-false (length capture) place e in omega arith))
+
+-- So a call that brings an attempt was inside the capture, and goes forward in it.
+pub attempt-forward : (mode : ℕ) (capture : List ℕ) (place : ℕ) (ending : Ending) (next : ℕ) → readOf mode capture place ≡ Attempt ending next
+    → (place < next) × (next ≤ length capture)
+unfolding readOf
+attempt-forward mode capture place ending next h = by (modeOf mode) h
+  where
+    inside : (m : LineMode) → readIn m capture place ≡ Attempt ending next → (t : Bool) → ltb place (length capture) ≡ t → (place < next) × (next ≤ length capture)
+    inside m h true e =
+        let g = walk-step m capture place (ltb-true place (length capture) e) .goes in
+        let same : g .next ≡ next = let told = g .told in cc in
+        let f = g .forward in
+        let i = g .inside in (omega arith, omega arith)
+    inside m h false e =
+        let none = none-read m capture place (ltb-false place (length capture) e) (λ n. []) in
+        absurd (let z : ending ∷ [] ≡ [] = ap (λ (o : ReadOutcome). onwards o (λ n. [])) (sym h) ∙ none in let l = ap length z in omega arith)
+
+    by : (f : Found) → readBy f capture place ≡ Attempt ending next → (place < next) × (next ≤ length capture)
+    by Unknown h = absurd (let z : _≡_ {A = ℕ} 0 1 = cc h in omega arith)
+    by (Known m) h = inside m h (ltb place (length capture)) refl
 
 -- The walk tells just the attempts that a reader tells edge by edge along the capture, each once and in order; and as many calls as there are
 -- edges left are enough.
