@@ -6,12 +6,13 @@ use Prim.Native.Nat.{ℕ, _+_, _<_, _≤_}
 use native.Mathlib.Nat.{add-assoc, add-zero}
 use native.Mathlib.Numerals.{add-one}
 use native.Mathlib.Omega.{arith}
-use lib.Dec.{eqb}
 use lib.ListN.{length, getD, drop, drop-of-length-le}
 use lib.Seq.{drop-cons}
-use Rattle.answers.specs.Answers.{refused}
-use Rattle.answers.specs.declared.Refusal.the-variants.{Cut}
 use Rattle.line_mode.specs.declared.modes.LineMode.{LineMode}
+use Rattle.line_reader.specs.declared.endings.Ending.{Ending}
+use Rattle.line_reader.specs.declared.endings.Ending.the-variants.{Cut}
+use Rattle.line_reader.specs.declared.endings.Heard.{Heard}
+use Rattle.line_reader.specs.declared.endings.Heard.the-variants.{Nothing, Ended}
 use Rattle.line_reader.specs.declared.reader.Reader.{Reader}
 use Rattle.line_reader.specs.declared.reader.Reader.the-variants.{Fresh, Dropping}
 use Rattle.line_mode.specs.declared.modes.Judgement.{Judgement}
@@ -19,7 +20,8 @@ use Rattle.line_mode.specs.declared.modes.Judgement.the-variants.{Positions, Qu
 use Rattle.line_mode.specs.Clock.{timeBetween}
 use Rattle.line_mode.specs.Gaps.{judgementOf}
 use Rattle.line_reader.specs.Reading.{edgeOf, dropsOn}
-use Rattle.line_captures.specs.Captures.{ends, isOpen, opensAt, attemptOf}
+use Rattle.line_captures.specs.declared.captures.ReadOutcome.the-variants.{Attempt}
+use Rattle.line_captures.specs.Captures.{isOpen, opensAt, attemptOf}
 
 -- One edge of the tail.
 here : (tail : List ℕ) (i : ℕ) → i < length tail → drop i tail ≡ getD tail i 0 ∷ drop (i + 1) tail
@@ -34,21 +36,19 @@ module _ (m : LineMode) (r : Reader) (x : ℕ) (rest : List ℕ) (at : ℕ) wher
   unfolding opensAt
   opens-later h = rw h
 
-  pub says-nothing : eqb (edgeOf m r x .says .kind) 0 ≡ true → attemptOf m r (x ∷ rest) at ≡ attemptOf m (edgeOf m r x .reader) rest (at + 1)
+  pub attempt-on : edgeOf m r x .heard ≡ Nothing → attemptOf m r (x ∷ rest) at ≡ attemptOf m (edgeOf m r x .reader) rest (at + 1)
   unfolding attemptOf
-  says-nothing h = rw h
+  attempt-on h = rw h
 
-  pub says-something : eqb (edgeOf m r x .says .kind) 0 ≡ false
-      → attemptOf m r (x ∷ rest) at
-      ≡ ends (edgeOf m r x .says) (cond (isOpen (edgeOf m r x .reader)) at (opensAt m (edgeOf m r x .reader) rest (at + 1)))
+  pub attempt-ends : (ending : Ending) → edgeOf m r x .heard ≡ Ended ending → attemptOf m r (x ∷ rest) at ≡ Attempt ending (opensAt m r (x ∷ rest) at)
   unfolding attemptOf
-  says-something h = rw h
+  attempt-ends ending h = rw h
 
 opens-end : (m : LineMode) (r : Reader) (tail : List ℕ) (at i : ℕ) → length tail ≤ i → opensAt m r (drop i tail) at ≡ at
 unfolding opensAt
 opens-end m r tail at i h = rw (drop-of-length-le tail h)
 
-attempt-end : (m : LineMode) (r : Reader) (tail : List ℕ) (at i : ℕ) → length tail ≤ i → attemptOf m r (drop i tail) at ≡ ends (refused Cut) at
+attempt-end : (m : LineMode) (r : Reader) (tail : List ℕ) (at i : ℕ) → length tail ≤ i → attemptOf m r (drop i tail) at ≡ Attempt Cut at
 unfolding attemptOf
 attempt-end m r tail at i h = rw (drop-of-length-le tail h)
 
@@ -87,26 +87,27 @@ pub try-start : (m : LineMode) (tail : List ℕ) (place : ℕ) → Trying m tail
 try-start m tail place = record { most = omega arith; same = ap (attemptOf m Fresh tail) (sym (add-zero place)) }
 
 module _ (m : LineMode) (tail : List ℕ) (place : ℕ) (reader : Reader) (i : ℕ) (t : Trying m tail place reader i) where
-  pub try-on : (next : Reader) → next ≡ edgeOf m reader (getD tail i 0) .reader → eqb (edgeOf m reader (getD tail i 0) .says .kind) 0 ≡ true → i < length tail
+  pub try-on : (next : Reader) → next ≡ edgeOf m reader (getD tail i 0) .reader → edgeOf m reader (getD tail i 0) .heard ≡ Nothing → i < length tail
       → Trying m tail place next (i + 1)
   try-on next e n h =
       record {
         most = omega arith;
         same =
             t .same ∙ ap (λ (l : List ℕ). attemptOf m reader l (place + i)) (here tail i h)
-            ∙ says-nothing m reader (getD tail i 0) (drop (i + 1) tail) (place + i) n
+            ∙ attempt-on m reader (getD tail i 0) (drop (i + 1) tail) (place + i) n
             ∙ ap₂ (λ (r : Reader) (k : ℕ). attemptOf m r (drop (i + 1) tail) k) (sym e) (add-assoc place i 1);
       }
 
-  pub tried : (next : Reader) → next ≡ edgeOf m reader (getD tail i 0) .reader → eqb (edgeOf m reader (getD tail i 0) .says .kind) 0 ≡ false → i < length tail
-      → attemptOf m Fresh tail place
-      ≡ ends (edgeOf m reader (getD tail i 0) .says) (cond (isOpen next) (place + i) (opensAt m next (drop (i + 1) tail) (place + (i + 1))))
-  tried next e n h =
+  pub tried : (next : Reader) (ending : Ending) → next ≡ edgeOf m reader (getD tail i 0) .reader → edgeOf m reader (getD tail i 0) .heard ≡ Ended ending
+      → i < length tail
+      → attemptOf m Fresh tail place ≡ Attempt ending (cond (isOpen next) (place + i) (opensAt m next (drop (i + 1) tail) (place + (i + 1))))
+  unfolding opensAt
+  tried next ending e n h =
       t .same ∙ ap (λ (l : List ℕ). attemptOf m reader l (place + i)) (here tail i h)
-      ∙ says-something m reader (getD tail i 0) (drop (i + 1) tail) (place + i) n
-      ∙ ap₂ (λ (r : Reader) (k : ℕ). ends (edgeOf m reader (getD tail i 0) .says) (cond (isOpen r) (place + i) (opensAt m r (drop (i + 1) tail) k))) (sym e) (add-assoc place i 1)
+      ∙ attempt-ends m reader (getD tail i 0) (drop (i + 1) tail) (place + i) ending n
+      ∙ ap₂ (λ (r : Reader) (k : ℕ). Attempt ending (cond (isOpen r) (place + i) (opensAt m r (drop (i + 1) tail) k))) (sym e) (add-assoc place i 1)
 
-  pub ran-out : length tail ≤ i → attemptOf m Fresh tail place ≡ ends (refused Cut) (place + i)
+  pub ran-out : length tail ≤ i → attemptOf m Fresh tail place ≡ Attempt Cut (place + i)
   ran-out h = t .same ∙ attempt-end m reader tail (place + i) i h
 
 -- While edges are dropped: each that opens nothing is the one before the next.

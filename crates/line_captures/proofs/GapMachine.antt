@@ -15,7 +15,7 @@ use Rattle.page_word.proofs.ComputedTest.{everyBelow, at-each, beq-equal, and-l
 use Rattle.line_mode.specs.Delimiters.{hsmDelimiter, lsmDelimiter}
 use Rattle.line_reader.specs.Pattern.{always, byBit, isClock, asks}
 use Rattle.line_reader.specs.Reading.{withBit}
-use Rattle.line_captures.proofs.EdgeRuns.{gaps}
+use Rattle.line_captures.specs.ReadingBack.{gaps}
 
 -- Whether counts of one to four positions lead from position p to the end, each as the pattern asks.
 abbrev pub passes : Bool → ℕ → List ℕ → Bool

@@ -40,7 +40,7 @@ pub record Counted (m : LineMode) (gap k : ℕ) : Type 0 where
   pub near : Near m k gap
 
 -- A gap within a window lies in it.
-within-near : (m : LineMode) (k gap : ℕ) → within m k gap ≡ true → Near m k gap
+pub within-near : (m : LineMode) (k gap : ℕ) → within m k gap ≡ true → Near m k gap
 within-near m k gap h =
     record {
       least = leb-true (k * m .spacing) (gap + m .tolerance) (and-left (leb (k * m .spacing) (gap + m .tolerance)) (leb gap (k * m .spacing + m .tolerance)) h);

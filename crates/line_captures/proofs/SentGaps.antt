@@ -13,7 +13,7 @@ use Rattle.line_writer.specs.Transitions.{hasTransition, positionsTo, transitio
 use Rattle.line_writer.proofs.PagePattern.{at-clock, at-bit, at-156}
 use Rattle.line_writer.proofs.SentBits.{sent-length}
 use Rattle.line_writer.proofs.WritingLoop.{more-yes, more-no}
-use Rattle.line_captures.proofs.EdgeRuns.{gapsAfter, gaps}
+use Rattle.line_captures.specs.ReadingBack.{gapsAfter, gaps}
 use Rattle.line_captures.proofs.GapMachine.{delimiterGaps, dataGaps, gapsOf}
 
 -- The n positions from p on for which a test holds.
