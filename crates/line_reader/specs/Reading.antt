@@ -30,7 +30,7 @@ abbrev pub withBit : (at k bits : ℕ) → ℕ
 withBit at k bits = if isClock at then bits / 2 + (if k =? 1 then 2 ^ 63 else 0) else bits
 
 -- "good if the check bits agree, else Check"
-unfoldable pub pageEnd : (bits : ℕ) → Ending
+abbrev pub pageEnd : (bits : ℕ) → Ending
 pageEnd bits = if agrees bits then Good (bits % 2 ^ 48) else Check
 
 -- A gap that the pattern asked for: the edge stands at its position. "The edge at 157 ends it".

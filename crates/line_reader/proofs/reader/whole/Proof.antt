@@ -1,10 +1,8 @@
 use borrow.Author.Needs.{needs}
-use Rattle.line_reader.specs.Reading.{pageEnd}
 use Rattle.line_reader.proofs.reader.whole.Statement.{statement}
 use Rattle.line_reader.proofs.reader.whole.Tie as tie
 
 pub whole-spec : {M : Type 1} → statement M
-unfolding pageEnd
 whole-spec =
     tie.close
     (tie.spec
