@@ -36,14 +36,14 @@ use Rattle.line_captures.proofs.ReadBits.{pushed-all, agreeing}
 
 -- What an edge of an open attempt brings: Cut and a new attempt, where its gap is quiet; another refusal; or its gap is a count that the pattern asks for, and it is
 -- passed, or ends a page.
-module _ (slow : Bool) (p bits reading : ℕ) where
+module _ (mode : LineMode) (p bits reading : ℕ) where
   pub data Edge (j : Judgement) : Type 0 where
-    cut : j ≡ Quiet → goesOn slow p bits reading j ≡ step (Ended Cut) (Open 1 reading 0) → Edge j
-    wrong : (ending : Ending) → ((w : ℕ) → ending ≡ Good w → ⊥) → goesOn slow p bits reading j ≡ step (Ended ending) (Dropping reading) → Edge j
-    passing : (k : ℕ) → j ≡ Positions k → asks slow p k ≡ true
-        → goesOn slow p bits reading j ≡ step Nothing (Open (p + k) reading (withBit p k bits)) → Edge j
-    ending : (k : ℕ) → j ≡ Positions k → asks slow p k ≡ true → p + k ≡ 157 → agrees (withBit p k bits) ≡ true
-        → goesOn slow p bits reading j ≡ step (Ended (Good (withBit p k bits % 2 ^ 48))) (Dropping reading) → Edge j
+    cut : j ≡ Quiet → goesOn mode p bits reading j ≡ step (Ended Cut) (Open 1 reading 0) → Edge j
+    wrong : (ending : Ending) → ((w : ℕ) → ending ≡ Good w → ⊥) → goesOn mode p bits reading j ≡ step (Ended ending) (Dropping reading) → Edge j
+    passing : (k : ℕ) → j ≡ Positions k → asks mode p k ≡ true
+        → goesOn mode p bits reading j ≡ step Nothing (Open (p + k) reading (withBit p k bits)) → Edge j
+    ending : (k : ℕ) → j ≡ Positions k → asks mode p k ≡ true → p + k ≡ 157 → agrees (withBit p k bits) ≡ true
+        → goesOn mode p bits reading j ≡ step (Ended (Good (withBit p k bits % 2 ^ 48))) (Dropping reading) → Edge j
 
   gap-no-page : (w : ℕ) → Gap ≡ Good w → ⊥
   gap-no-page w h = let z : _≡_ {A = ℕ} 0 1 = cc h in omega arith
@@ -55,9 +55,9 @@ module _ (slow : Bool) (p bits reading : ℕ) where
   unfolding goesOn arrives
   edge-cases Quiet = cut refl refl
   edge-cases Unfit = wrong Gap gap-no-page refl
-  edge-cases (Positions k) = by (asks slow p k) refl (eqb (p + k) 157) refl (agrees (withBit p k bits)) refl
+  edge-cases (Positions k) = by (asks mode p k) refl (eqb (p + k) 157) refl (agrees (withBit p k bits)) refl
     where
-      by : (a : Bool) → asks slow p k ≡ a → (e : Bool) → eqb (p + k) 157 ≡ e → (g : Bool) → agrees (withBit p k bits) ≡ g → Edge (Positions k)
+      by : (a : Bool) → asks mode p k ≡ a → (e : Bool) → eqb (p + k) 157 ≡ e → (g : Bool) → agrees (withBit p k bits) ≡ g → Edge (Positions k)
       by false a e f g h = wrong Gap gap-no-page (rw a)
       by true a false f g h = passing k refl a (rw (a, f))
       by true a true f false h = wrong Check check-no-page (rw (a, f, h))
@@ -71,13 +71,13 @@ brought e h = ap (λ (x : Step). x .heard) (sym e) ∙ h
 record Walk (m : LineMode) (p x bits w : ℕ) (edges : List ℕ) : Type 0 where
   counts : List ℕ
   judged : map (judgementOf m) (gapsAfter timeBetween x edges) ≡ map Positions counts
-  through : passes (m .slow) p counts ≡ true
+  through : passes m p counts ≡ true
   agreed : agrees (bitsAfter p bits counts) ≡ true
   word : w ≡ bitsAfter p bits counts % 2 ^ 48
 
 module _ (m : LineMode) (p x bits w y : ℕ) where
   -- The edge that says the page,
-  last-edge : Edge (m .slow) p bits y (judgementOf m (timeBetween y x)) → goesOn (m .slow) p bits y (judgementOf m (timeBetween y x)) .heard ≡ Ended (Good w)
+  last-edge : Edge m p bits y (judgementOf m (timeBetween y x)) → goesOn m p bits y (judgementOf m (timeBetween y x)) .heard ≡ Ended (Good w)
       → Walk m p x bits w (y ∷ [])
   last-edge (cut q e) h = absurd (let f = brought e h in let z : _≡_ {A = ℕ} 0 1 = cc in omega arith)
   last-edge (wrong other none e) h = absurd (none w (let f = brought e h in cc f))
@@ -87,16 +87,16 @@ module _ (m : LineMode) (p x bits w y : ℕ) where
       record {
         counts = k ∷ [];
         judged = ap (λ (i : Judgement). i ∷ []) j;
-        through = pass (m .slow) p k [] (record { least = c .least; most = c .most; asked = a; on = eq-eqb (p + k) 157 end });
+        through = pass m p k [] (record { least = c .least; most = c .most; asked = a; on = eq-eqb (p + k) 157 end });
         agreed = g;
         word = let f = brought e h in cc f;
       }
 
   -- and one before it, that says nothing.
-  edge-before : (edges : List ℕ) → Edge (m .slow) p bits y (judgementOf m (timeBetween y x))
-      → ((k : ℕ) → goesOn (m .slow) p bits y (judgementOf m (timeBetween y x)) .reader ≡ Open (p + k) y (withBit p k bits)
+  edge-before : (edges : List ℕ) → Edge m p bits y (judgementOf m (timeBetween y x))
+      → ((k : ℕ) → goesOn m p bits y (judgementOf m (timeBetween y x)) .reader ≡ Open (p + k) y (withBit p k bits)
       → Walk m (p + k) y (withBit p k bits) w edges)
-      → goesOn (m .slow) p bits y (judgementOf m (timeBetween y x)) .heard ≡ Nothing → Walk m p x bits w (y ∷ edges)
+      → goesOn m p bits y (judgementOf m (timeBetween y x)) .heard ≡ Nothing → Walk m p x bits w (y ∷ edges)
   edge-before edges (cut q e) later h = absurd (let f = brought e h in let z : _≡_ {A = ℕ} 0 1 = cc in omega arith)
   edge-before edges (wrong other none e) later h = absurd (let f = brought e h in let z : _≡_ {A = ℕ} 0 1 = cc in omega arith)
   edge-before edges (ending k j a end g e) later h = absurd (let f = brought e h in let z : _≡_ {A = ℕ} 0 1 = cc in omega arith)
@@ -106,7 +106,7 @@ module _ (m : LineMode) (p x bits w y : ℕ) where
       record {
         counts = k ∷ r .counts;
         judged = ap₂ (λ (i : Judgement) (l : List Judgement). i ∷ l) j (r .judged);
-        through = pass (m .slow) p k (r .counts) (record { least = c .least; most = c .most; asked = a; on = r .through });
+        through = pass m p k (r .counts) (record { least = c .least; most = c .most; asked = a; on = r .through });
         agreed = r .agreed;
         word = r .word;
       }
@@ -116,27 +116,27 @@ walked : (m : LineMode) (n p x bits w : ℕ) (edges : List ℕ) → heardAlong m
 unfolding edgeOf
 walked m zero p x bits w [] h = absurd (let z : _≡_ {A = ℕ} 0 1 = cc h in omega arith)
 walked m (suc n) p x bits w [] h = absurd (let z : _≡_ {A = ℕ} 0 1 = cc h in omega arith)
-walked m zero p x bits w (y ∷ []) h = last-edge m p x bits w y (edge-cases (m .slow) p bits y (judgementOf m (timeBetween y x))) (cc h)
+walked m zero p x bits w (y ∷ []) h = last-edge m p x bits w y (edge-cases m p bits y (judgementOf m (timeBetween y x))) (cc h)
 walked m zero p x bits w (y ∷ z ∷ edges) h = absurd (let z : _≡_ {A = ℕ} 0 1 = cc h in omega arith)
 walked m (suc n) p x bits w (y ∷ edges) h =
-    edge-before m p x bits w y edges (edge-cases (m .slow) p bits y (judgementOf m (timeBetween y x)))
+    edge-before m p x bits w y edges (edge-cases m p bits y (judgementOf m (timeBetween y x)))
     (λ k e. walked m n (p + k) y (withBit p k bits) w edges (ap (λ (r : Reader). heardAlong m r edges) (sym e) ∙ cc h)) (cc h)
 
 -- So an attempt that is read as a page was sent.
 pub only-carried : (m : LineMode) (n w x : ℕ) (edges : List ℕ) → heardAlong m (Open 1 x 0) edges ≡ onlyLast n (Ended (Good w)) → Carried m w (x ∷ edges)
 only-carried m n w x edges h =
     let walk = walked m n 1 x 0 w edges h in
-    let page = only-pages (m .slow) (walk .counts) (walk .through) in
+    let page = only-pages m (walk .counts) (walk .through) in
     let register : bitsAfter 1 0 (walk .counts) ≡ sumOf (page .bits)
-    = ap (bitsAfter 1 0) (page .whole) ∙ page-bits (m .slow) (page .bits) (page .long) ∙ pushed-all (page .bits) (page .long) in
+    = ap (bitsAfter 1 0) (page .whole) ∙ page-bits m (page .bits) (page .long) ∙ pushed-all (page .bits) (page .long) in
     let is-word : w ≡ sumOf (page .bits) % 2 ^ 48 = walk .word ∙ ap (λ (r : ℕ). r % 2 ^ 48) register in
     let sent : page .bits ≡ sentBits w
     = agreeing (page .bits) (page .long) (ap agrees (sym register) ∙ walk .agreed) ∙ ap sentBits (sym is-word) in
-    let counts : walk .counts ≡ gaps _-_ (transitions (m .slow) w)
-    = page .whole ∙ ap (gapsOf (m .slow)) sent ∙ sym (transition-gaps (m .slow) w) in
+    let counts : walk .counts ≡ gaps _-_ (transitions m w)
+    = page .whole ∙ ap (gapsOf m) sent ∙ sym (transition-gaps m w) in
     record {
       word = rw is-word (mod-lt (sumOf (page .bits)) (pow-pos 48));
       carried =
-          all-inside m (gaps _-_ (transitions (m .slow) w)) (gapsAfter timeBetween x edges)
-          (judged.all-near m (gaps _-_ (transitions (m .slow) w)) (gapsAfter timeBetween x edges) (walk .judged ∙ ap (map Positions) counts));
+          all-inside m (gaps _-_ (transitions m w)) (gapsAfter timeBetween x edges)
+          (judged.all-near m (gaps _-_ (transitions m w)) (gapsAfter timeBetween x edges) (walk .judged ∙ ap (map Positions) counts));
     }

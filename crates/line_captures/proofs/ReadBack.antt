@@ -53,7 +53,7 @@ verdict bits = Ended (cond (agrees bits) (Good (bits % 2 ^ 48)) Check)
 
 -- An edge whose gap is a count that the pattern asks for: before 157 it is passed, at 157 it ends the attempt.
 module _ (m : LineMode) (p last bits reading k : ℕ) (judged : judgementOf m (timeBetween reading last) ≡ Positions k)
-    (asked : asks (m .slow) p k ≡ true)
+    (asked : asks m p k ≡ true)
   where
     passes-edge : (p + k ≡ 157 → ⊥) → edgeOf m (Open p last bits) reading ≡ step Nothing (Open (p + k) reading (withBit p k bits))
     unfolding edgeOf goesOn arrives
@@ -80,28 +80,28 @@ edge-more m r next after x y rest heard e h =
 
 -- Counts that lead to 157 are read to the end.
 counts-read : (m : LineMode) (p x bits : ℕ) (ks edges : List ℕ) → map (judgementOf m) (gapsAfter timeBetween x edges) ≡ map Positions ks
-    → passes (m .slow) p ks ≡ true → (p ≡ 157 → ⊥) → HeardLast m (Open p x bits) edges (verdict (bitsAfter p bits ks)) (Dropping (lastOf x edges))
+    → passes m p ks ≡ true → (p ≡ 157 → ⊥) → HeardLast m (Open p x bits) edges (verdict (bitsAfter p bits ks)) (Dropping (lastOf x edges))
 counts-read m p x bits [] edges j h n = absurd (n (eqb-true p 157 h))
 counts-read m p x bits (k ∷ ks) [] j h n = absurd (let z : _≡_ {A = ℕ} 0 1 = cc j in omega arith)
 counts-read m p x bits (k ∷ []) (y ∷ []) j h n =
-    let c = passed (m .slow) p k [] h in
+    let c = passed m p k [] h in
     one-edge m (Open p x bits) (Dropping y) y (verdict (withBit p k bits)) (ends-edge m p x bits y k (cc j) (c .asked) (eqb-true (p + k) 157 (c .on)))
 counts-read m p x bits (k ∷ []) (y ∷ z ∷ edges) j h n = absurd (let z : _≡_ {A = ℕ} 0 1 = cc j in omega arith)
 counts-read m p x bits (k ∷ i ∷ ks) (y ∷ []) j h n = absurd (let z : _≡_ {A = ℕ} 0 1 = cc j in omega arith)
 counts-read m p x bits (k ∷ i ∷ ks) (y ∷ z ∷ edges) j h n =
-    let c = passed (m .slow) p k (i ∷ ks) h in
+    let c = passed m p k (i ∷ ks) h in
     edge-more m (Open p x bits) (Open (p + k) y (withBit p k bits)) (Dropping (lastOf z edges)) y z edges (verdict (bitsAfter p bits (k ∷ i ∷ ks)))
     (passes-edge m p x bits y k (cc j) (c .asked) (before c))
     (counts-read m (p + k) y (withBit p k bits) (i ∷ ks) (z ∷ edges) (cc j) (c .on) (before c))
   where
-    before : Passed (m .slow) p k (i ∷ ks) → p + k ≡ 157 → ⊥
-    before c e = let f = none-past (m .slow) (i ∷ ks) (rw e at (c .on)) in let z : _≡_ {A = ℕ} 0 1 = cc f in omega arith
+    before : Passed m p k (i ∷ ks) → p + k ≡ 157 → ⊥
+    before c e = let f = none-past m (i ∷ ks) (rw e at (c .on)) in let z : _≡_ {A = ℕ} 0 1 = cc f in omega arith
 
 -- A page has more than one edge.
 more-than-one : (m : LineMode) (w : ℕ) → Carries m w [] → ⊥
 more-than-one m w near =
-    let e = sym (transition-gaps (m .slow) w) ∙ Forall₂·eq-nil-left near in
-    let h : passes (m .slow) 1 [] ≡ true = rw e at (page-passes (m .slow) (sentBits w) (sent-length w)) in
+    let e = sym (transition-gaps m w) ∙ Forall₂·eq-nil-left near in
+    let h : passes m 1 [] ≡ true = rw e at (page-passes m (sentBits w) (sent-length w)) in
     let z : _≡_ {A = ℕ} 0 1 = cc h in omega arith
 
 -- A list has a gap for each entry but the first,
@@ -125,26 +125,26 @@ same-length m (p ∷ ps) (x ∷ rest) some near =
 -- edges sent for a word are as many as its page's transitions.
 pub as-many : (m : LineMode) (w : ℕ) (edges : List ℕ) → Carries m w edges → length edges ≡ edgeCount m w
 unfolding edgeCount
-as-many m w edges near = same-length m (transitions (m .slow) w) edges (more-than-one m w) near
+as-many m w edges near = same-length m (transitions m w) edges (more-than-one m w) near
 
 -- The bits of a page are found good, and are its word.
-page-verdict : (slow : Bool) (w : ℕ) → w < 2 ^ 48 → verdict (bitsAfter 1 0 (gapsOf slow (sentBits w))) ≡ Ended (Good w)
-page-verdict slow w h =
-    ap verdict (page-bits slow (sentBits w) (sent-length w) ∙ pushed-all (sentBits w) (sent-length w))
+page-verdict : (mode : LineMode) (w : ℕ) → w < 2 ^ 48 → verdict (bitsAfter 1 0 (gapsOf mode (sentBits w))) ≡ Ended (Good w)
+page-verdict mode w h =
+    ap verdict (page-bits mode (sentBits w) (sent-length w) ∙ pushed-all (sentBits w) (sent-length w))
     ∙ rw (sent-agrees w, sent-word w h)
 
 module _ (m : LineMode) (apart : Apart m) (w : ℕ) (word : w < 2 ^ 48) where
   -- An attempt that is open at its first edge reads the rest of the page,
   pub opened-reads : (x : ℕ) (edges : List ℕ) → Carries m w (x ∷ edges) → HeardLast m (Open 1 x 0) edges (Ended (Good w)) (Dropping (lastOf x edges))
   opened-reads x edges near =
-      subst (λ (s : Heard). HeardLast m (Open 1 x 0) edges s (Dropping (lastOf x edges))) (page-verdict (m .slow) w word)
-      (counts-read m 1 x 0 (gapsOf (m .slow) (sentBits w)) edges
-      (all-judged m (m .slow) 1 (gapsOf (m .slow) (sentBits w)) (gapsAfter timeBetween x edges) apart through
-      (all-near m (gapsOf (m .slow) (sentBits w)) (gapsAfter timeBetween x edges) (rw (transition-gaps (m .slow) w) at near)))
+      subst (λ (s : Heard). HeardLast m (Open 1 x 0) edges s (Dropping (lastOf x edges))) (page-verdict m w word)
+      (counts-read m 1 x 0 (gapsOf m (sentBits w)) edges
+      (all-judged m 1 (gapsOf m (sentBits w)) (gapsAfter timeBetween x edges) apart through
+      (all-near m (gapsOf m (sentBits w)) (gapsAfter timeBetween x edges) (rw (transition-gaps m w) at near)))
       through (λ e. omega arith))
     where
-      through : passes (m .slow) 1 (gapsOf (m .slow) (sentBits w)) ≡ true
-      through = page-passes (m .slow) (sentBits w) (sent-length w)
+      through : passes m 1 (gapsOf m (sentBits w)) ≡ true
+      through = page-passes m (sentBits w) (sent-length w)
 
   -- and a fresh reader the whole page.
   pub fresh-reads : (edges : List ℕ) → Carries m w edges → HeardLast m Fresh edges (Ended (Good w)) (Dropping (lastOf 0 edges))

@@ -8,7 +8,8 @@ use Rattle.line_reader.specs.declared.reader.Reader.the-variants.{Fresh}
 use Rattle.line_mode.specs.Modes.{hsmMode, lsmMode}
 use Rattle.line_mode.specs.Gaps.{judgementOf}
 use Rattle.line_writer.specs.Transitions.{sentBits, hasTransition, positionsTo, transitions, readings}
-use Rattle.line_reader.specs.Pattern.{always, byBit, isClock, asks}
+use Rattle.line_page.specs.Pattern.{isClock, isBit, standsAt}
+use Rattle.line_reader.specs.Pattern.{asks}
 use Rattle.line_reader.specs.Reading.{arrives, goesOn, dropsOn, edgeOf}
 use Rattle.line_captures.specs.declared.captures.ReadOutcome.the-variants.{Attempt}
 use Rattle.line_captures.specs.Captures.{opensAt, attemptOf}
@@ -20,5 +21,5 @@ pub record ReadExamples : Type 0 where
   pub gap : attemptOf hsmMode Fresh (0 ∷ 30 ∷ 60 ∷ 90 ∷ 300 ∷ []) 0 ≡ Attempt Gap 4
 
 pub read-examples : ReadExamples
-unfolding readings transitions positionsTo hasTransition sentBits checkBits checkList remainder agrees xor judgementOf always byBit isClock asks arrives goesOn dropsOn edgeOf opensAt attemptOf
+unfolding readings transitions positionsTo hasTransition sentBits checkBits checkList remainder agrees xor judgementOf standsAt isBit isClock asks arrives goesOn dropsOn edgeOf opensAt attemptOf
 read-examples = record { zero-high = refl; word-low = refl; cut = refl; gap = refl }

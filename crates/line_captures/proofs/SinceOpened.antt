@@ -56,9 +56,9 @@ turn m (Dropping last) x = by (judgementOf m (timeBetween x last)) refl
     by Quiet e = opens (judged-quiet m (timeBetween x last) e) (rw e)
     by Unfit e = shuts (rw e)
     by (Positions k) e = shuts (rw e)
-turn m (Open at last bits) x = by (edge-cases (m .slow) at bits x (judgementOf m (timeBetween x last)))
+turn m (Open at last bits) x = by (edge-cases m at bits x (judgementOf m (timeBetween x last)))
   where
-    by : Edge (m .slow) at bits x (judgementOf m (timeBetween x last)) → Turn m (Open at last bits) x
+    by : Edge m at bits x (judgementOf m (timeBetween x last)) → Turn m (Open at last bits) x
     by (cut q e) = opens (judged-quiet m (timeBetween x last) q) (ap (λ (b : Step). b .reader) e)
     by (wrong other no-page e) = shuts (ap (λ (b : Step). isOpen (b .reader)) e)
     by (passing k j a e) = goes refl (ap (λ (b : Step). b .heard) e)
@@ -128,9 +128,9 @@ last-at m (Dropping last) x = by (judgementOf m (timeBetween x last))
     by Quiet = held 1 0
     by Unfit = dropped
     by (Positions k) = dropped
-last-at m (Open at last bits) x = by (edge-cases (m .slow) at bits x (judgementOf m (timeBetween x last)))
+last-at m (Open at last bits) x = by (edge-cases m at bits x (judgementOf m (timeBetween x last)))
   where
-    by : Edge (m .slow) at bits x (judgementOf m (timeBetween x last)) → LastAt x (goesOn (m .slow) at bits x (judgementOf m (timeBetween x last)) .reader)
+    by : Edge m at bits x (judgementOf m (timeBetween x last)) → LastAt x (goesOn m at bits x (judgementOf m (timeBetween x last)) .reader)
     by (cut q e) = rw e (held 1 0)
     by (wrong other no-page e) = rw e dropped
     by (passing k j a e) = rw e (held (at + k) _)

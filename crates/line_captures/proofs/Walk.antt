@@ -51,11 +51,11 @@ arrived at bits x = by (eqb at 157) (agrees bits)
     by false g = on at bits
     by true g = over (cond g (Good (bits % 2 ^ 48)) Check)
 
-turns : (slow : Bool) (at bits x : ℕ) (j : Judgement) → Turns x (goesOn slow at bits x j)
+turns : (mode : LineMode) (at bits x : ℕ) (j : Judgement) → Turns x (goesOn mode at bits x j)
 unfolding goesOn
-turns slow at bits x Quiet = cut
-turns slow at bits x Unfit = over Gap
-turns slow at bits x (Positions k) = by (asks slow at k)
+turns mode at bits x Quiet = cut
+turns mode at bits x Unfit = over Gap
+turns mode at bits x (Positions k) = by (asks mode at k)
   where
     by : (t : Bool) → Turns x (cond t (arrives (at + k) (withBit at k bits) x) (step (Ended Gap) (Dropping x)))
     by true = arrived (at + k) (withBit at k bits) x
@@ -164,7 +164,7 @@ attempting m p y b [] at =
     }
 attempting m p y b (x ∷ rest) at =
     by (λ p′ y′ b′. attempting m p′ y′ b′ rest (at + 1)) (edgeOf m (Open p y b) x) refl
-    (unfold edgeOf in turns (m .slow) p b x (judgementOf m (timeBetween x y)))
+    (unfold edgeOf in turns m p b x (judgementOf m (timeBetween x y)))
   where
     by : ((p′ y′ b′ : ℕ) → Leads m (Open p′ y′ b′) rest (at + 1) (attemptOf m (Open p′ y′ b′) rest (at + 1)))
         → (brought : Step) → edgeOf m (Open p y b) x ≡ brought → Turns x brought → Leads m (Open p y b) (x ∷ rest) at (attemptOf m (Open p y b) (x ∷ rest) at)

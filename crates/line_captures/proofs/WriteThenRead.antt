@@ -20,7 +20,8 @@ use Rattle.line_captures.specs.declared.captures.ReadOutcome.the-variant
 use Rattle.line_mode.specs.declared.modes.Found.the-variants.{Known, Unknown}
 use Rattle.line_mode.specs.Modes.{hsmMode, lsmMode, modeOf, saysBy, leavesBy}
 use Rattle.line_mode.specs.Clock.{timeBetween}
-use Rattle.line_mode.specs.Delimiters.{hsmDelimiter, lsmDelimiter}
+use Rattle.line_page.specs.Pattern.{delimiterOf, hsmDelimiter, lsmDelimiter}
+use Rattle.line_page.proofs.Positions.{by-delimiter}
 use Rattle.line_writer.specs.Transitions.{transitions, sentBits, hasTransition, positionsTo, readingAt, readings, edgeCount}
 use Rattle.line_writer.specs.Writing.{hasRoom, placed, saysIn, leavesIn, writeSays, writeLeaves}
 use Rattle.line_captures.specs.Captures.{opensAt, attemptOf, readIn, readBy, readOf}
@@ -59,30 +60,35 @@ module _ (m : LineMode) (first : ℕ) (clock : 4 * m .spacing < 2 ^ 32) where
   at-nominal k gap e = record { least = omega arith; most = omega arith }
 
   -- So with the readings of positions whose gaps pass.
-  positions-near : (slow : Bool) (at p : ℕ) (ps : List ℕ) → 1 ≤ p → passes slow at (gapsAfter _-_ p ps) ≡ true
+  positions-near : (mode : LineMode) (at p : ℕ) (ps : List ℕ) → 1 ≤ p → passes mode at (gapsAfter _-_ p ps) ≡ true
       → Forall₂ (Near m) (gapsAfter _-_ p ps) (gaps timeBetween (times (p ∷ ps)))
-  positions-near slow at p [] h through = Forall₂·nil
-  positions-near slow at p (q ∷ ps) h through =
-      let c = passed slow at (q - p) (gapsAfter _-_ q ps) through in
+  positions-near mode at p [] h through = Forall₂·nil
+  positions-near mode at p (q ∷ ps) h through =
+      let c = passed mode at (q - p) (gapsAfter _-_ q ps) through in
       Forall₂·cons
       (at-nominal (q - p) (timeBetween (readingAt (m .spacing) first q) (readingAt (m .spacing) first p)) (nominal p q h (c .least) (c .most)))
-      (positions-near slow (at + (q - p)) q ps (let a = c .least in omega arith) (c .on))
+      (positions-near mode (at + (q - p)) q ps (let a = c .least in omega arith) (c .on))
 
   -- A page's transitions begin at 1;
-  listed-near : (slow : Bool) (rest : List ℕ) → passes slow 1 (gaps _-_ (cond slow lsmDelimiter hsmDelimiter ++ rest)) ≡ true
-      → Forall₂ (Near m) (gaps _-_ (cond slow lsmDelimiter hsmDelimiter ++ rest)) (gaps timeBetween (times (cond slow lsmDelimiter hsmDelimiter ++ rest)))
-  listed-near true rest h = positions-near true 1 1 (drop 1 (lsmDelimiter ++ rest)) (omega arith) h
-  listed-near false rest h = positions-near false 1 1 (drop 1 (hsmDelimiter ++ rest)) (omega arith) h
+  listed-near : (mode : LineMode) (rest : List ℕ) → passes mode 1 (gaps _-_ (delimiterOf mode ++ rest)) ≡ true
+      → Forall₂ (Near m) (gaps _-_ (delimiterOf mode ++ rest)) (gaps timeBetween (times (delimiterOf mode ++ rest)))
+  listed-near mode rest =
+      by-delimiter
+      (λ n. passes n 1 (gaps _-_ (delimiterOf n ++ rest)) ≡ true
+      → Forall₂ (Near m) (gaps _-_ (delimiterOf n ++ rest)) (gaps timeBetween (times (delimiterOf n ++ rest))))
+      (λ s t q. positions-near (record { spacing = s; tolerance = t; quiet = q; slow = true }) 1 1 (drop 1 (lsmDelimiter ++ rest)) (omega arith))
+      (λ s t q. positions-near (record { spacing = s; tolerance = t; quiet = q; slow = false }) 1 1 (drop 1 (hsmDelimiter ++ rest)) (omega arith))
+      mode
 
   -- so the readings that are written carry the word.
   pub written-carries : (w : ℕ) → Carries m w (readings m w first)
   unfolding readings
   written-carries w =
-      all-inside m (gaps _-_ (transitions (m .slow) w)) (gaps timeBetween (times (transitions (m .slow) w)))
-      (subst (λ (ps : List ℕ). Forall₂ (Near m) (gaps _-_ ps) (gaps timeBetween (times ps))) (sym (transitions-listed (m .slow) w))
-      (listed-near (m .slow) (27 ∷ afterClock 27 (sentBits w))
-      (ap (λ (ps : List ℕ). passes (m .slow) 1 (gaps _-_ ps)) (sym (transitions-listed (m .slow) w))
-      ∙ ap (passes (m .slow) 1) (transition-gaps (m .slow) w) ∙ page-passes (m .slow) (sentBits w) (sent-length w))))
+      all-inside m (gaps _-_ (transitions m w)) (gaps timeBetween (times (transitions m w)))
+      (subst (λ (ps : List ℕ). Forall₂ (Near m) (gaps _-_ ps) (gaps timeBetween (times ps))) (sym (transitions-listed m w))
+      (listed-near m (27 ∷ afterClock 27 (sentBits w))
+      (ap (λ (ps : List ℕ). passes m 1 (gaps _-_ ps)) (sym (transitions-listed m w))
+      ∙ ap (passes m 1) (transition-gaps m w) ∙ page-passes m (sentBits w) (sent-length w))))
 
 -- The last of a list with one more at its end.
 last-appended : (x y : ℕ) (l : List ℕ) → lastOf x (l ++ (y ∷ [])) ≡ y
@@ -94,14 +100,14 @@ pub last-written : (m : LineMode) (w first : ℕ) → lastOf 0 (readings m w fir
 unfolding readings transitions
 last-written m w first =
     ap (λ (ps : List ℕ). lastOf 0 (map (readingAt (m .spacing) first) ps))
-    (more-yes (hasTransition (m .slow) (sentBits w)) 156 (at-clock (m .slow) (sentBits w) 157 (omega arith) (omega arith) refl))
-    ∙ ap (lastOf 0) (map-append (readingAt (m .spacing) first) (positionsTo (hasTransition (m .slow) (sentBits w)) 156) (157 ∷ []))
-    ∙ last-appended 0 (readingAt (m .spacing) first 157) (map (readingAt (m .spacing) first) (positionsTo (hasTransition (m .slow) (sentBits w)) 156))
+    (more-yes (hasTransition m (sentBits w)) 156 (at-clock m (sentBits w) 157 (omega arith) (omega arith) refl))
+    ∙ ap (lastOf 0) (map-append (readingAt (m .spacing) first) (positionsTo (hasTransition m (sentBits w)) 156) (157 ∷ []))
+    ∙ last-appended 0 (readingAt (m .spacing) first 157) (map (readingAt (m .spacing) first) (positionsTo (hasTransition m (sentBits w)) 156))
 
 -- There are as many as transitions.
 pub count-written : (m : LineMode) (w first : ℕ) → length (readings m w first) ≡ edgeCount m w
 unfolding readings edgeCount
-count-written m w first = length-map (transitions (m .slow) w) (readingAt (m .spacing) first)
+count-written m w first = length-map (transitions m w) (readingAt (m .spacing) first)
 
 module _ (m : LineMode) (apart : Apart m) (clock : 4 * m .spacing < 2 ^ 32) (w first : ℕ) (word : w < 2 ^ 48) where
   -- A written page is read, whatever follows it,

@@ -40,7 +40,7 @@ abbrev pub InWindow : LineMode → (k gap : ℕ) → Type 0
 InWindow m k gap = within m k gap ≡ true
 
 abbrev pub Carries : LineMode → (word : ℕ) (edges : List ℕ) → Type 0
-Carries m w edges = Forall₂ (InWindow m) (gaps _-_ (transitions (m .slow) w)) (gaps timeBetween edges)
+Carries m w edges = Forall₂ (InWindow m) (gaps _-_ (transitions m w)) (gaps timeBetween edges)
 
 -- Nothing n times, and then this.
 abbrev pub onlyLast : (n : ℕ) → Heard → List Heard

@@ -1,10 +1,10 @@
 // Captures: the first attempt from a place on, and where the next one opens.
 ghost use mathlib.Core.Path.{_≡_};
-ghost use Prim.Native.Nat.{_+_, _≤_};
+ghost use Prim.Native.Nat.{ℕ, _+_, _≤_};
 ghost use lib.ListN.{length, drop};
 ghost use Rattle.answers.specs.Choices.{if_then_else_};
 ghost use Rattle.answers.specs.Answers.{said};
-ghost use Rattle.line_reader.specs.declared.reader.Reader.the-variants.{Fresh, Dropping};
+ghost use Rattle.line_reader.specs.declared.reader.Reader.the-variants.{Fresh, Open, Dropping};
 ghost use Rattle.line_captures.specs.Captures.{isOpen, opensAt, attemptOf, readIn, readOf, saidOfRead};
 use answers::Answer;
 use answers::Refusal;
@@ -15,6 +15,7 @@ use line_reader::Ending;
 use line_reader::Heard;
 use line_reader::Reader;
 use line_reader::drop_on;
+use line_reader::go_on;
 
 // What reading a capture from a place on brings: no mode has that number; the place is past the end, or at it; or how the first attempt
 // ends, and where the next one opens.
@@ -83,16 +84,42 @@ fn next_opens(tail: &[u32], place: usize, i: usize, mode: LineMode, reader: Read
     }
 }
 
-// The first attempt of a capture's tail that stands at a place.
+// The position of an open attempt's last edge.
+fn position_of(reader: Reader) -> u32
+    ensures { λ r. ⌜ ((at last bits : ℕ) → reader ≡ Open at last bits → r ≡ at) ⌝ }
+{
+    match reader {
+        Reader::Fresh => 0,
+        Reader::Open { at, last, bits } => at,
+        Reader::Dropping { last } => 0,
+    }
+}
+
+// The bits of an open attempt.
+fn bits_of(reader: Reader) -> u64
+    ensures { λ r. ⌜ ((at last bits : ℕ) → reader ≡ Open at last bits → r ≡ bits) ⌝ }
+{
+    match reader {
+        Reader::Fresh => 0,
+        Reader::Open { at, last, bits } => bits,
+        Reader::Dropping { last } => 0,
+    }
+}
+
+// The first attempt of a capture's tail that stands at a place: its first edge opens it. The loop holds the attempt as numbers, since an edge costs
+// twice as much where the reader goes through memory.
 fn first_attempt(tail: &[u32], place: usize, mode: LineMode) -> ReadOutcome
-    requires { ⌜ place + length (now tail) ≤ 18446744073709551615 ⌝ }
+    requires { ⌜ (1 ≤ length (now tail)) × (place + length (now tail) ≤ 18446744073709551615) ⌝ }
     ensures { λ r. ⌜ r ≡ attemptOf mode Fresh (now (tail .entry)) place ⌝ }
 {
-    let mut reader = Reader::Fresh;
-    let mut i: usize = 0;
+    let mut at: u32 = 1;
+    let mut last = tail[0];
+    let mut bits: u64 = 0;
+    let mut i: usize = 1;
     while i < tail.len() {
-        let step = reader.edge(mode, tail[i]);
-        reader = step.reader;
+        let reading = tail[i];
+        let step = go_on(mode, at, last, bits, reading);
+        let reader = step.reader;
         let heard = step.heard;
         match heard {
             Heard::Nothing => {}
@@ -103,6 +130,9 @@ fn first_attempt(tail: &[u32], place: usize, mode: LineMode) -> ReadOutcome
                 };
             }
         }
+        at = position_of(reader);
+        last = reading;
+        bits = bits_of(reader);
         i += 1;
     }
     ReadOutcome::Attempt {

@@ -19,12 +19,12 @@ abbrev μ-loop : tie.MeasureT-loop
 
 returns : tie.Need-returns Inv-loop μ-loop
 returns c =
-    found _ _ _ _ _ _ _ (c .before .before .before .before .before .loop .inv) _ (ap (λ (s : Step). s .reader) (c .before .before .drop-on .ensures ∙ sym (drops _ _ _)))
+    found _ _ _ _ _ _ _ (c .before .before .before .before .before .loop .inv) _ (ap (λ (s : Step). s .reader) (c .before .before .drop-on .ensures))
     (sym (c .before .is-open .ensures) ∙ c .if1 .taken) (omega arith)
 
 loop-again : tie.Need-loop-again Inv-loop μ-loop
 loop-again c =
-    let dropped = ap (λ (s : Step). s .reader) (c .before .before .drop-on .ensures) in
+    let dropped = ap (λ (s : Step). s .reader) (c .before .before .drop-on .ensures ∙ drops _ _ _) in
     seek-on _ _ _ _ _ _ _ (c .before .before .before .before .before .loop .inv) _
     (sym (stays _ _ (ap isOpen (sym dropped) ∙ sym (c .before .is-open .ensures) ∙ c .if1 .left)) ∙ ap (λ (s : Step). s .reader) (sym (drops _ _ _))) refl (omega arith)
 
