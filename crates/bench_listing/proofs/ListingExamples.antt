@@ -7,7 +7,8 @@ use Rattle.line_writer.specs.Transitions.{sentBits, hasTransition, positionsTo,
 use Rattle.line_captures.specs.Captures.{readOf, readIn, attemptOf, opensAt, attemptsFrom, attempts}
 use Rattle.line_mode.specs.Gaps.{judgementOf}
 use Rattle.line_mode.specs.Modes.{hsmMode, modeOf}
-use Rattle.line_reader.specs.Pattern.{always, byBit, isClock, asks}
+use Rattle.line_page.specs.Pattern.{isClock, isBit, standsAt}
+use Rattle.line_reader.specs.Pattern.{asks}
 use Rattle.line_reader.specs.Reading.{edgeOf, goesOn, arrives, dropsOn}
 use Rattle.bench_listing.specs.Words.{text, decimal, hexDigits}
 use Rattle.bench_listing.specs.Listing.{given, readingsOf, attemptLine, attemptLines, goodOnes, badOnes, firstLine, lastLine, captureListing, refusedLine, listing}
@@ -24,5 +25,5 @@ pub record Examples : Type 0 where
   odd : listing (0 ∷ 0 ∷ 0 ∷ 0 ∷ []) ≡ text "refused 15\n"
 
 pub examples : Examples
-unfolding readings transitions positionsTo hasTransition sentBits checkBits checkList remainder agrees xor readOf readIn attemptOf opensAt attemptsFrom attempts judgementOf modeOf always byBit isClock asks edgeOf goesOn arrives dropsOn decimal hexDigits given readingsOf attemptLine attemptLines goodOnes badOnes firstLine lastLine captureListing refusedLine listing
+unfolding readings transitions positionsTo hasTransition sentBits checkBits checkList remainder agrees xor readOf readIn attemptOf opensAt attemptsFrom attempts judgementOf modeOf standsAt isBit isClock asks edgeOf goesOn arrives dropsOn decimal hexDigits given readingsOf attemptLine attemptLines goodOnes badOnes firstLine lastLine captureListing refusedLine listing
 examples = record { three = refl; zero-page = refl; none = refl; missing = refl; wrong = refl; odd = refl }
