@@ -1,6 +1,6 @@
 -- The call that lists: what it says, and its two lent lists afterwards.
 use Prim.Native.Nat.{ℕ}
-use mathlib.Core.Bool.{Bool, _&&_}
+use mathlib.Core.Bool.{_&&_}
 use mathlib.Core.List.{List}
 use lib.ListN.{length}
 use Rattle.answers.specs.Choices.{if_then_else_, _≤?_}
@@ -14,15 +14,11 @@ pub record Listed : Type 0 where
   pub readings : List ℕ
   pub output : List ℕ
 
--- Whether the two lent lists hold every listing: 8 000 readings; a first and a last line of 20 bytes each and 8 000 lines of 23 bytes.
-abbrev pub roomy : (readings output : List ℕ) → Bool
-roomy readings output = 8000 ≤? length readings && 184040 ≤? length output
-
 -- The number of bytes of the listing; the input's readings and the listing, each at the head of its list, and behind them the old entries. If a
--- lent list is too short for the longest listing, 12, Room, whatever the input, and both are left as they were. (14, 12 and 15 for the input
--- are text, and this call does not answer them.)
+-- lent list is too short for the longest listing (8 000 readings; a first and a last line of 20 bytes each and 8 000 lines of 23 bytes), 12, Room,
+-- whatever the input, and both are left as they were. (14, 12 and 15 for the input are text, and this call does not answer them.)
 unfoldable pub listed : (input readings output : List ℕ) → Listed
 listed input readings output =
-    if roomy readings output
+    if 8000 ≤? length readings && 184040 ≤? length output
     then record { says = number (length (listing input)); readings = headed (listedReadings input) readings; output = headed (listing input) output }
     else record { says = refused Room; readings = readings; output = output }

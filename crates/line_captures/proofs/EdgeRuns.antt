@@ -1,5 +1,6 @@
 -- Runs of edges: what is heard along them and the reader afterwards; and that edges carry a word just where their gaps are near those of its page.
 use mathlib.Core.Path.{_≡_}
+use mathlib.Core.Bool.{true}
 use mathlib.Core.List.{List, [], _∷_, Forall₂, Forall₂·nil, Forall₂·cons}
 use Prim.Native.Nat.{ℕ, _-_, _^_, _<_}
 use lib.ListN.{length}
@@ -7,8 +8,9 @@ use Rattle.line_mode.specs.declared.modes.LineMode.{LineMode}
 use Rattle.line_reader.specs.declared.endings.Heard.{Heard}
 use Rattle.line_reader.specs.declared.reader.Reader.{Reader}
 use Rattle.line_reader.specs.Reading.{heardAlong, readerAfter}
+use Rattle.line_mode.specs.Gaps.{within}
 use Rattle.line_mode.proofs.Windows.{Near, inside}
-use Rattle.line_captures.specs.ReadingBack.{InWindow, Carries, onlyLast}
+use Rattle.line_captures.specs.ReadingBack.{Carries, onlyLast}
 use Rattle.line_captures.proofs.JudgedGaps.{within-near}
 
 -- The last of a list that follows x; x itself if there is none.
@@ -25,6 +27,10 @@ pub record HeardLast (m : LineMode) (r : Reader) (edges : List ℕ) (heard : Hea
 pub record Carried (m : LineMode) (w : ℕ) (edges : List ℕ) : Type 0 where
   pub word : w < 2 ^ 48
   pub carried : Carries m w edges
+
+-- A gap in the window of so many positions.
+abbrev pub InWindow : LineMode → ℕ → ℕ → Type 0
+InWindow m k gap = within m k gap ≡ true
 
 -- Gaps in their windows are near, and the other way round.
 pub all-near : (m : LineMode) (ks times : List ℕ) → Forall₂ (InWindow m) ks times → Forall₂ (Near m) ks times

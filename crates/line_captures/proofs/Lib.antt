@@ -13,5 +13,5 @@ pub mod CaptureShift
 pub mod WriteThenRead
 pub mod ReadTheorem
 pub mod Walk
-pub mod ReadingProved
 pub mod SaysPage
+pub mod ReadingProved

@@ -25,8 +25,8 @@ use Rattle.line_reader.specs.Reading.{step, withBit, arrives, goesOn, dropsOn, 
 use Rattle.line_mode.proofs.Windows.{Apart, counts-quiet}
 use Rattle.line_writer.proofs.SentBits.{sent-length}
 use Rattle.line_captures.proofs.JudgedGaps.{all-judged}
-use Rattle.line_captures.specs.ReadingBack.{gapsAfter, gaps, InWindow, Carries, onlyLast}
-use Rattle.line_captures.proofs.EdgeRuns.{lastOf, HeardLast, all-near}
+use Rattle.line_captures.specs.ReadingBack.{gapsAfter, gaps, Carries, onlyLast}
+use Rattle.line_captures.proofs.EdgeRuns.{lastOf, HeardLast, InWindow, all-near}
 use Rattle.line_captures.proofs.GapMachine.{passes, bitsAfter, Passed, passed, none-past, gapsOf, page-passes, page-bits}
 use Rattle.line_captures.proofs.SentGaps.{transition-gaps}
 use Rattle.line_captures.proofs.ReadBits.{pushed-all, sent-agrees, sent-word}

@@ -7,7 +7,7 @@ use native.Mathlib.Omega.{arith}
 use lib.Dec.{eqb, ltb}
 use lib.ListN.{length, drop, length-append, length-drop}
 use borrow.Author.Tests.{ltb-false, eqb-false, lt-ltb, le-ltb, le-leb, ne-eqb}
-use Rattle.answers.specs.Answers.{number}
+use Rattle.answers.specs.Answers.{number, pageRead}
 use Rattle.line_mode.specs.declared.modes.LineMode.{LineMode}
 use Rattle.line_mode.specs.declared.modes.Found.{Found}
 use Rattle.line_mode.specs.declared.modes.Found.the-variants.{Known}
@@ -16,7 +16,7 @@ use Rattle.line_reader.specs.declared.endings.Heard.{Heard}
 use Rattle.line_reader.specs.declared.endings.Heard.the-variants.{Nothing, Ended}
 use Rattle.line_reader.specs.declared.reader.Step.{Step}
 use Rattle.line_reader.specs.declared.reader.Reader.{Reader}
-use Rattle.line_reader.specs.declared.reader.Reader.the-variants.{Fresh, Open, Dropping}
+use Rattle.line_reader.specs.declared.reader.Reader.the-variants.{Fresh, Open}
 use Rattle.line_mode.specs.Clock.{timeBetween}
 use Rattle.line_mode.specs.Modes.{hsmMode, lsmMode, modeOf, saysBy}
 use Rattle.line_mode.proofs.Windows.{Apart, hsm-apart, lsm-apart}
@@ -24,10 +24,10 @@ use Rattle.line_writer.specs.Transitions.{readings, edgeCount}
 use Rattle.line_writer.specs.Writing.{saysIn, writeSays}
 use Rattle.line_writer.proofs.WrittenList.{has-edges}
 use Rattle.line_reader.specs.Reading.{step, edgeOf, heardAlong, readerAfter}
-use Rattle.line_captures.specs.declared.captures.ReadOutcome.{ReadOutcome}
 use Rattle.line_captures.specs.declared.captures.ReadOutcome.the-variants.{PastTheEnd, AtTheEnd, Attempt}
-use Rattle.line_captures.specs.Captures.{isOpen, opensAt, attemptOf, readIn}
-use Rattle.line_captures.specs.ReadingBack.{Carries, onlyLast, BeginsWith, AnswersPage, GoesForward, ReadingBack}
+use Rattle.line_captures.specs.Captures.{saidOfRead, isOpen, attemptOf, readIn}
+use Rattle.line_captures.specs.ReadingBack.{Carries, onlyLast, BeginsWith, ReadingBack}
+use Rattle.line_captures.proofs.SaysPage.{heard-page, read-page}
 use Rattle.line_captures.proofs.EdgeRuns.{lastOf}
 use Rattle.line_captures.proofs.ReadBack.{as-many, opened-reads, fresh-reads, dropping-opens, open-opens}
 use Rattle.line_captures.proofs.ReadCaptures.{page-answer, answered-carried}
@@ -53,26 +53,23 @@ inside m capture place h = rw (le-ltb (length capture) place (omega arith), ne-e
 
 module _ (m : LineMode) (apart : Apart m) (capture : List ℕ) (place w : ℕ) where
   -- Where a page stands at the place it answers that page;
-  read-back : BeginsWith m w (drop place capture) → AnswersPage (readIn m capture place) w
+  read-back : BeginsWith m w (drop place capture) → saidOfRead (readIn m capture place) ≡ pageRead w
   read-back b =
-      record {
-        next = opensAt m (Dropping (lastOf 0 (b .page))) (b .behind) (place + length (b .page));
-        told =
-            inside m capture place (omega (arith, length-drop place capture, ap length (b .whole), length-append (b .page) (b .behind), as-many m w (b .page) (b .carried), has-edges m capture place w 0 (b .word)))
-            ∙ ap (λ (l : List ℕ). attemptOf m Fresh l place) (b .whole)
-            ∙ page-answer m Fresh w (lastOf 0 (b .page)) place (b .page) (b .behind) (fresh-reads m apart w (b .word) (b .page) (b .carried));
-      }
+      ap saidOfRead
+      (inside m capture place (omega (arith, length-drop place capture, ap length (b .whole), length-append (b .page) (b .behind), as-many m w (b .page) (b .carried), has-edges m capture place w 0 (b .word)))
+      ∙ ap (λ (l : List ℕ). attemptOf m Fresh l place) (b .whole)
+      ∙ page-answer m Fresh w (lastOf 0 (b .page)) place (b .page) (b .behind) (fresh-reads m apart w (b .word) (b .page) (b .carried)))
 
   -- and where it answers a page, that page stands at the place.
-  read-only : AnswersPage (readIn m capture place) w → BeginsWith m w (drop place capture)
+  read-only : saidOfRead (readIn m capture place) ≡ pageRead w → BeginsWith m w (drop place capture)
   unfolding readIn
-  read-only a = by (ltb (length capture) place) (eqb place (length capture)) (a .told)
+  read-only h = let a = read-page (readIn m capture place) w h in by (ltb (length capture) place) (eqb place (length capture)) (a .next) (a .told)
     where
-      by : (t u : Bool) → cond t PastTheEnd (cond u AtTheEnd (attemptOf m Fresh (drop place capture) place)) ≡ Attempt (Good w) (a .next)
+      by : (t u : Bool) (next : ℕ) → cond t PastTheEnd (cond u AtTheEnd (attemptOf m Fresh (drop place capture) place)) ≡ Attempt (Good w) next
           → BeginsWith m w (drop place capture)
-      by true u h = absurd (let z : _≡_ {A = ℕ} 0 1 = cc h in omega arith)
-      by false true h = absurd (let z : _≡_ {A = ℕ} 0 1 = cc h in omega arith)
-      by false false h = answered-carried m w (drop place capture) place (a .next) h
+      by true u next h = absurd (let z : _≡_ {A = ℕ} 0 1 = cc h in omega arith)
+      by false true next h = absurd (let z : _≡_ {A = ℕ} 0 1 = cc h in omega arith)
+      by false false next h = answered-carried m w (drop place capture) place next h
 
 -- The write call by a mode's number, where there is room.
 write-known : (mode : ℕ) (m : LineMode) (list : List ℕ) (place w : ℕ) → modeOf mode ≡ Known m → w < 2 ^ 48 → place + edgeCount m w ≤ length list
@@ -95,13 +92,13 @@ reading-back mode m known apart clock =
       one-word = λ v w edges below word first second.
           let same = same-last (length edges - 1) (Ended (Good v)) (Ended (Good w))
           (sym (fresh-reads m apart v below edges first .told) ∙ fresh-reads m apart w word edges second .told) in cc same;
-      nothing-else = λ past x w h. page-heard m past x w h;
-      read = λ capture place w b. subst (λ (o : ReadOutcome). AnswersPage o w) (sym (read-known mode m capture place known)) (read-back m apart capture place w b);
-      read-only = λ capture place w a. read-only m apart capture place w (subst (λ (o : ReadOutcome). AnswersPage o w) (read-known mode m capture place known) a);
+      nothing-else = λ past x w h. page-heard m past x w (heard-page (edgeOf m (readerAfter m Fresh past) x .heard) w h);
+      read = λ capture place w b. ap saidOfRead (read-known mode m capture place known) ∙ read-back m apart capture place w b;
+      read-only = λ capture place w h. read-only m apart capture place w (ap saidOfRead (sym (read-known mode m capture place known)) ∙ h);
       written = λ list place w first word room.
           let says = write-known mode m list place w known word room in (says, write-then-read mode list place w first (edgeCount m w) says);
       forward = λ capture place h.
-          subst (λ (o : ReadOutcome). GoesForward o capture place) (sym (read-known mode m capture place known)) (walk-step m capture place h .goes);
+          let g = walk-step m capture place h .goes in (g .ending, g .next, read-known mode m capture place known ∙ g .told, g .forward, g .inside);
       each-once = λ capture place more enough. attempts-told mode m known capture more place enough;
     }
   where

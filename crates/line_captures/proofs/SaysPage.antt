@@ -11,7 +11,6 @@ use Rattle.line_reader.specs.Endings.{saidOfEnding, saidOfHeard}
 use Rattle.line_captures.specs.declared.captures.ReadOutcome.{ReadOutcome}
 use Rattle.line_captures.specs.declared.captures.ReadOutcome.the-variants.{UnknownMode, PastTheEnd, AtTheEnd, Attempt}
 use Rattle.line_captures.specs.Captures.{saidOfRead}
-use Rattle.line_captures.specs.ReadingBack.{AnswersPage}
 
 good-ending : (e : Ending) (w : ℕ) → saidOfEnding e ≡ pageRead w → e ≡ Good w
 good-ending (Good v) w h = ap Good (ap (λ (s : Said). s .value) h)
@@ -22,6 +21,10 @@ good-ending Check w h = absurd (let k = ap (λ (s : Said). s .kind) h in omega a
 pub heard-page : (heard : Heard) (w : ℕ) → saidOfHeard heard ≡ pageRead w → heard ≡ Ended (Good w)
 heard-page Nothing w h = absurd (let k = ap (λ (s : Said). s .kind) h in omega arith)
 heard-page (Ended e) w h = ap Ended (good-ending e w h)
+
+pub record AnswersPage (outcome : ReadOutcome) (w : ℕ) : Type 0 where
+  pub next : ℕ
+  pub told : outcome ≡ Attempt (Good w) next
 
 pub read-page : (outcome : ReadOutcome) (w : ℕ) → saidOfRead outcome ≡ pageRead w → AnswersPage outcome w
 read-page UnknownMode w h = absurd (let k = ap (λ (s : Said). s .kind) h in omega arith)

@@ -31,7 +31,7 @@ use Rattle.line_reader.specs.Reading.{step, withBit, arrives, goesOn, dropsOn, 
 use Rattle.line_captures.specs.declared.captures.ReadOutcome.{ReadOutcome}
 use Rattle.line_captures.specs.declared.captures.ReadOutcome.the-variants.{PastTheEnd, AtTheEnd, Attempt}
 use Rattle.line_captures.specs.Captures.{opensAt, attemptOf, readIn, readBy, readOf, onwards, attemptsFrom}
-use Rattle.line_captures.specs.ReadingBack.{GoesForward, endings, endsOpen}
+use Rattle.line_captures.specs.ReadingBack.{endings, endsOpen}
 
 -- How every attempt of a list of edges ends that a reader takes, as it tells them edge by edge.
 abbrev pub toldBy : LineMode → Reader → List ℕ → List Ending
@@ -184,6 +184,14 @@ attempting m p y b (x ∷ rest) at =
           told = rw e;
           goes = ending-edge m (Open p y b) x rest at (opensAt m (Dropping x) rest (at + 1)) ending (Dropping x) e (dropping m x rest (at + 1));
         }
+
+-- An attempt that goes forward in the capture and stays in it.
+pub record GoesForward (outcome : ReadOutcome) (capture : List ℕ) (place : ℕ) : Type 0 where
+  pub ending : Ending
+  pub next : ℕ
+  pub told : outcome ≡ Attempt ending next
+  pub forward : place < next
+  pub inside : next ≤ length capture
 
 -- One read call of the walk: it goes forward, stays in the capture, and tells the next of the capture's attempts.
 pub record WalkStep (m : LineMode) (capture : List ℕ) (place : ℕ) (outcome : ReadOutcome) : Type 0 where

@@ -11,7 +11,7 @@ use lib.ListN.{length, take, drop, length-map, length-append}
 use lib.Seq.{drop-at, length-take-le}
 use borrow.Author.Tests.{le-ltb, ne-eqb, ltb-true, leb-true}
 use Rattle.page_word.specs.Word.{isWord}
-use Rattle.answers.specs.Answers.{Said, refused, number}
+use Rattle.answers.specs.Answers.{Said, refused, number, pageRead}
 use Rattle.answers.specs.declared.Refusal.the-variants.{Room, Wide}
 use Rattle.line_mode.specs.declared.modes.LineMode.{LineMode}
 use Rattle.line_reader.specs.declared.endings.Ending.the-variants.{Good}
@@ -24,13 +24,13 @@ use Rattle.line_page.specs.Pattern.{delimiterOf, hsmDelimiter, lsmDelimiter}
 use Rattle.line_page.proofs.Positions.{by-delimiter}
 use Rattle.line_writer.specs.Transitions.{transitions, sentBits, hasTransition, positionsTo, readingAt, readings, edgeCount}
 use Rattle.line_writer.specs.Writing.{hasRoom, placed, saysIn, leavesIn, writeSays, writeLeaves}
-use Rattle.line_captures.specs.Captures.{opensAt, attemptOf, readIn, readBy, readOf}
+use Rattle.line_captures.specs.Captures.{saidOfRead, opensAt, attemptOf, readIn, readBy, readOf}
 use Rattle.line_mode.proofs.Windows.{Apart, Near, hsm-apart, lsm-apart}
 use Rattle.line_writer.proofs.SentBits.{sent-length}
 use Rattle.line_writer.proofs.PagePattern.{at-clock}
 use Rattle.line_writer.proofs.WritingLoop.{more-yes}
 use Rattle.line_writer.proofs.WrittenList.{has-edges}
-use Rattle.line_captures.specs.ReadingBack.{gapsAfter, gaps, Carries, AnswersPage}
+use Rattle.line_captures.specs.ReadingBack.{gapsAfter, gaps, Carries}
 use Rattle.line_captures.proofs.EdgeRuns.{lastOf, all-inside}
 use Rattle.line_captures.proofs.GapMachine.{passes, passed, page-passes}
 use Rattle.line_captures.proofs.SentGaps.{afterClock, transitions-listed, transition-gaps}
@@ -136,30 +136,27 @@ module _ (m : LineMode) (apart : Apart m) (clock : 4 * m .spacing < 2 ^ 32) (w f
 
 -- The two calls, in a mode's numbers: where the write call answers a number, the read call from the same place on answers the page.
 in-mode : (m : LineMode) → Apart m → 4 * m .spacing < 2 ^ 32 → (list : List ℕ) (place w first n : ℕ)
-    → saysIn m list place w ≡ number n → AnswersPage (readIn m (leavesIn m list place w first) place) w
+    → saysIn m list place w ≡ number n → saidOfRead (readIn m (leavesIn m list place w first) place) ≡ pageRead w
 unfolding saysIn leavesIn
 in-mode m apart clock list place w first n h = by (isWord w) refl (hasRoom m list place w) refl h
   where
     by : (t : Bool) → isWord w ≡ t → (s : Bool) → hasRoom m list place w ≡ s
         → cond t (cond s (number (edgeCount m w)) (refused Room)) (refused Wide) ≡ number n
-        → AnswersPage (readIn m (cond (t && s) (placed m list place w first) list) place) w
+        → saidOfRead (readIn m (cond (t && s) (placed m list place w first) list) place) ≡ pageRead w
     by false e s f h = absurd (let k = ap (λ (a : Said). a .kind) h in omega arith)
     by true e false f h = absurd (let k = ap (λ (a : Said). a .kind) h in omega arith)
     by true e true f h =
-        record {
-          next = opensAt m (Dropping (readingAt (m .spacing) first 157)) (drop (place + edgeCount m w) list) (place + edgeCount m w);
-          told = placed-read m apart clock w first (ltb-true w (2 ^ 48) e) list place (leb-true (edgeCount m w) (length list - place) f);
-        }
+        ap saidOfRead (placed-read m apart clock w first (ltb-true w (2 ^ 48) e) list place (leb-true (edgeCount m w) (length list - place) f))
 
 -- The two calls, for every mode's number: a page that was written is read back from where it was written.
 pub write-then-read : (mode : ℕ) (list : List ℕ) (place w first n : ℕ)
-    → writeSays mode list place w ≡ number n → AnswersPage (readOf mode (writeLeaves mode list place w first) place) w
+    → writeSays mode list place w ≡ number n → saidOfRead (readOf mode (writeLeaves mode list place w first) place) ≡ pageRead w
 unfolding writeSays writeLeaves readOf modeOf
 write-then-read mode list place w first n h = by (eqb mode 0) (eqb mode 1) h
   where
     by : (a b : Bool) → saysBy (cond a (Known hsmMode) (cond b (Known lsmMode) Unknown)) (λ m. saysIn m list place w) ≡ number n
-        → AnswersPage (readBy (cond a (Known hsmMode) (cond b (Known lsmMode) Unknown))
-        (leavesBy (cond a (Known hsmMode) (cond b (Known lsmMode) Unknown)) (λ m. leavesIn m list place w first) list) place) w
+        → saidOfRead (readBy (cond a (Known hsmMode) (cond b (Known lsmMode) Unknown))
+        (leavesBy (cond a (Known hsmMode) (cond b (Known lsmMode) Unknown)) (λ m. leavesIn m list place w first) list) place) ≡ pageRead w
     by true b h = in-mode hsmMode hsm-apart (omega arith) list place w first n h
     by false true h = in-mode lsmMode lsm-apart (omega arith) list place w first n h
     by false false h = absurd (let k = ap (λ (a : Said). a .kind) h in omega arith)

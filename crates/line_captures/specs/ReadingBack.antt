@@ -6,7 +6,7 @@ use mathlib.Core.Bool.{Bool, true}
 use mathlib.Core.List.{List, [], _∷_, _++_, Forall₂}
 use lib.ListN.{length, replicate, drop}
 use Rattle.answers.specs.Choices.{if_then_else_, _≤?_}
-use Rattle.answers.specs.Answers.{number}
+use Rattle.answers.specs.Answers.{number, pageRead}
 use Rattle.line_mode.specs.declared.modes.LineMode.{LineMode}
 use Rattle.line_mode.specs.Clock.{timeBetween}
 use Rattle.line_mode.specs.Gaps.{within}
@@ -18,10 +18,10 @@ use Rattle.line_reader.specs.declared.endings.Heard.{Heard}
 use Rattle.line_reader.specs.declared.endings.Heard.the-variants.{Nothing, Ended}
 use Rattle.line_reader.specs.declared.reader.Reader.{Reader}
 use Rattle.line_reader.specs.declared.reader.Reader.the-variants.{Fresh}
+use Rattle.line_reader.specs.Endings.{saidOfHeard}
 use Rattle.line_reader.specs.Reading.{edgeOf, heardAlong, readerAfter}
-use Rattle.line_captures.specs.declared.captures.ReadOutcome.{ReadOutcome}
 use Rattle.line_captures.specs.declared.captures.ReadOutcome.the-variants.{Attempt}
-use Rattle.line_captures.specs.Captures.{isOpen, readOf, attemptsFrom}
+use Rattle.line_captures.specs.Captures.{saidOfRead, isOpen, readOf, attemptsFrom}
 
 -- What lies between each entry of a list and the one before it: between those behind x,
 abbrev pub gapsAfter : (between : ℕ → ℕ → ℕ) (x : ℕ) (behind : List ℕ) → List ℕ
@@ -36,11 +36,8 @@ gaps between (x ∷ behind) = gapsAfter between x behind
 -- Edges that carry a word: one for each transition of its page, and between neighbours, k positions apart, a gap that "lies within k·spacing ±
 -- tolerance, ends included". The first edge may stand at any reading. (`Forall₂` says that two lists are as long as each other, and that this holds of
 -- each entry of the one and the entry at its place in the other.)
-abbrev pub InWindow : LineMode → (k gap : ℕ) → Type 0
-InWindow m k gap = within m k gap ≡ true
-
 abbrev pub Carries : LineMode → (word : ℕ) (edges : List ℕ) → Type 0
-Carries m w edges = Forall₂ (InWindow m) (gaps _-_ (transitions m w)) (gaps timeBetween edges)
+Carries m w edges = Forall₂ (λ k gap. within m k gap ≡ true) (gaps _-_ (transitions m w)) (gaps timeBetween edges)
 
 -- Nothing n times, and then this.
 abbrev pub onlyLast : (n : ℕ) → Heard → List Heard
@@ -70,19 +67,6 @@ pub record BeginsWith (m : LineMode) (w : ℕ) (edges : List ℕ) : Type 0 where
   pub word : w < 2 ^ 48
   pub carried : Carries m w page
 
--- A read call that answers a page,
-pub record AnswersPage (outcome : ReadOutcome) (w : ℕ) : Type 0 where
-  pub next : ℕ
-  pub told : outcome ≡ Attempt (Good w) next
-
--- and one that goes forward in the capture and stays in it.
-pub record GoesForward (outcome : ReadOutcome) (capture : List ℕ) (place : ℕ) : Type 0 where
-  pub ending : Ending
-  pub next : ℕ
-  pub told : outcome ≡ Attempt ending next
-  pub forward : place < next
-  pub inside : next ≤ length capture
-
 -- How attempts ended, of what was heard edge by edge,
 abbrev pub endings : List Heard → List Ending
 endings [] = []
@@ -106,18 +90,19 @@ pub record ReadingBack (mode : ℕ) (m : LineMode) : Type 0 where
       heardAlong m reader (x ∷ edges) ≡ (if isOpen reader then Ended Cut else Nothing) ∷ onlyLast (length edges - 1) (Ended (Good w))
   -- No edges carry two words.
   pub one-word : (v w : ℕ) (edges : List ℕ) → v < 2 ^ 48 → w < 2 ^ 48 → Carries m v edges → Carries m w edges → v ≡ w
-  -- Nothing else is read as a page: where a reader hears a word, after whatever edges since it was fresh, the last edges carry it, and the
+  -- Nothing else is read as a page: where a reader says a word, after whatever edges since it was fresh, the last edges carry it, and the
   -- first of these was the first of all or followed a quiet gap. "edges are dropped without an answer until one follows a quiet gap"
-  pub nothing-else : (past : List ℕ) (x w : ℕ) → edgeOf m (readerAfter m Fresh past) x .heard ≡ Ended (Good w) → EndsWith m w (past ++ (x ∷ []))
+  pub nothing-else : (past : List ℕ) (x w : ℕ) → saidOfHeard (edgeOf m (readerAfter m Fresh past) x .heard) ≡ pageRead w → EndsWith m w (past ++ (x ∷ []))
   -- The read call answers the page that stands at its place, whatever stands behind it,
-  pub read : (capture : List ℕ) (place w : ℕ) → BeginsWith m w (drop place capture) → AnswersPage (readOf mode capture place) w
+  pub read : (capture : List ℕ) (place w : ℕ) → BeginsWith m w (drop place capture) → saidOfRead (readOf mode capture place) ≡ pageRead w
   -- and a page that it answers stands there.
-  pub read-only : (capture : List ℕ) (place w : ℕ) → AnswersPage (readOf mode capture place) w → BeginsWith m w (drop place capture)
+  pub read-only : (capture : List ℕ) (place w : ℕ) → saidOfRead (readOf mode capture place) ≡ pageRead w → BeginsWith m w (drop place capture)
   -- What is written, at any place of any list with room for it and from any first reading on, is read back from that place.
   pub written : (list : List ℕ) (place w first : ℕ) → w < 2 ^ 48 → place + edgeCount m w ≤ length list
-      → (writeSays mode list place w ≡ number (edgeCount m w)) × AnswersPage (readOf mode (writeLeaves mode list place w first) place) w
-  -- Reading goes forward and stays in the capture,
-  pub forward : (capture : List ℕ) (place : ℕ) → place < length capture → GoesForward (readOf mode capture place) capture place
+      → (writeSays mode list place w ≡ number (edgeCount m w)) × (saidOfRead (readOf mode (writeLeaves mode list place w first) place) ≡ pageRead w)
+  -- Reading goes forward and stays in the capture: inside it there is an attempt, and its next place,
+  pub forward : (capture : List ℕ) (place : ℕ) → place < length capture
+      → (ending : Ending) × (next : ℕ) × (readOf mode capture place ≡ Attempt ending next) × (place < next) × (next ≤ length capture)
   -- and so ends: as many calls as there are edges left, each at the next place of the one before, tell each attempt once and in order, as a reader
   -- tells them edge by edge.
   pub each-once : (capture : List ℕ) (place more : ℕ) → length capture ≤ place + more
