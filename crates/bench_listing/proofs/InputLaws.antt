@@ -1,56 +1,25 @@
--- The listing and its readings, by the tests of the input in their order.
+-- What is given, by the tests of an input in their order; what a capture's input has; and the listing and readings of each.
 use mathlib.Core.Path.{_≡_, refl, sym, ap, _∙_, subst}
+use mathlib.Core.Bool.{Bool, true, false, cond}
 use mathlib.Core.List.{List, [], _∷_}
 use Prim.Native.Nat.{ℕ, _-_, _%_, _<_, _≤_}
 use native.Mathlib.Omega.{arith}
-use borrow.Author.Tests.{lt-ltb, le-ltb, eq-eqb, ne-eqb}
+use borrow.Author.Tests.{lt-ltb, le-ltb, eq-eqb, ne-eqb, ltb-false}
+use lib.Dec.{eqb, ltb}
 use lib.ListN.{length, getD, take, drop, length-drop}
 use lib.Seq.{drop-cons, take-at}
+use Rattle.answers.specs.declared.Refusal.the-variants.{Room, Mode, Odd}
+use Rattle.bench_listing.specs.declared.input.Given.{Given}
+use Rattle.bench_listing.specs.declared.input.Given.the-variants.{Refused, Capture}
 use Rattle.bench_listing.specs.Placing.{headed}
-use Rattle.bench_listing.specs.Listing.{readingsOf, captureListing, refusedLine, listing, listedReadings}
+use Rattle.bench_listing.specs.Listing.{given}
 
--- That this is the listing of an input, and these are its readings.
-pub record Lists (input bytes entries : List ℕ) : Type 0 where
-  pub text : bytes ≡ listing input
-  pub readings : entries ≡ listedReadings input
-
-pub nothing-given : (input : List ℕ) → length input ≡ 0 → Lists input (refusedLine 14) []
-unfolding listing listedReadings
-nothing-given [] h = record { text = refl; readings = refl }
+pub nothing-given : (input : List ℕ) → length input ≡ 0 → Refused Mode ≡ given input
+unfolding given
+nothing-given [] h = refl
 nothing-given (x ∷ rest) h = absurd (omega arith)
 
-module _ (mode : ℕ) (bytes : List ℕ) where
-  wrong : 1 < mode → Lists (mode ∷ bytes) (refusedLine 14) []
-  unfolding listing listedReadings
-  wrong h = record { text = rw (lt-ltb 1 mode h); readings = rw (lt-ltb 1 mode h) }
-
-  module _ (known : mode ≤ 1) where
-    over : 32001 < length (mode ∷ bytes) → Lists (mode ∷ bytes) (refusedLine 12) []
-    unfolding listing listedReadings
-    over h =
-        record {
-          text = rw (le-ltb 1 mode known, lt-ltb 32001 (length (mode ∷ bytes)) h);
-          readings = rw (le-ltb 1 mode known, lt-ltb 32001 (length (mode ∷ bytes)) h);
-        }
-
-    module _ (fits : length (mode ∷ bytes) ≤ 32001) where
-      odd : (length bytes % 4 ≡ 0 → ⊥) → Lists (mode ∷ bytes) (refusedLine 15) []
-      unfolding listing listedReadings
-      odd h =
-          record {
-            text = rw (le-ltb 1 mode known, le-ltb 32001 (length (mode ∷ bytes)) fits, ne-eqb (length bytes % 4) 0 h);
-            readings = rw (le-ltb 1 mode known, le-ltb 32001 (length (mode ∷ bytes)) fits, ne-eqb (length bytes % 4) 0 h);
-          }
-
-      whole : length bytes % 4 ≡ 0 → Lists (mode ∷ bytes) (captureListing mode (readingsOf bytes)) (readingsOf bytes)
-      unfolding listing listedReadings
-      whole h =
-          record {
-            text = rw (le-ltb 1 mode known, le-ltb 32001 (length (mode ∷ bytes)) fits, eq-eqb (length bytes % 4) 0 h);
-            readings = rw (le-ltb 1 mode known, le-ltb 32001 (length (mode ∷ bytes)) fits, eq-eqb (length bytes % 4) 0 h);
-          }
-
--- The same in terms of the input as it is lent.
+-- In terms of the input as it is lent.
 module _ (input : List ℕ) (mode : ℕ) (first : mode ≡ getD input 0 0) (some : 0 < length input) where
   parts : mode ∷ drop 1 input ≡ input
   parts = ap (λ (m : ℕ). m ∷ drop 1 input) first ∙ sym (drop-cons input 0 0 some)
@@ -58,25 +27,56 @@ module _ (input : List ℕ) (mode : ℕ) (first : mode ≡ getD input 0 0) (some
   rest-length : length (drop 1 input) ≡ length input - 1
   rest-length = length-drop 1 input
 
-  module _ {text readings : List ℕ} where
-    as-lent : Lists (mode ∷ drop 1 input) text readings → Lists input text readings
-    as-lent l = subst (λ (i : List ℕ). Lists i text readings) parts l
-
-  pub wrong-mode : 1 < mode → Lists input (refusedLine 14) []
-  wrong-mode h = as-lent (wrong mode (drop 1 input) h)
+  pub wrong-mode : 1 < mode → Refused Mode ≡ given input
+  unfolding given
+  wrong-mode h = subst (λ (i : List ℕ). Refused Mode ≡ given i) parts (rw (lt-ltb 1 mode h))
 
   module _ (known : mode ≤ 1) where
-    pub too-long : 32001 < length input → Lists input (refusedLine 12) []
-    too-long h = as-lent (over mode (drop 1 input) known (let r = rest-length in omega arith))
+    pub too-long : 32001 < length input → Refused Room ≡ given input
+    unfolding given
+    too-long h =
+        subst (λ (i : List ℕ). Refused Room ≡ given i) parts
+        (rw (le-ltb 1 mode known, lt-ltb 32001 (length (mode ∷ drop 1 input)) (let r = rest-length in omega arith)))
 
     module _ (fits : length input ≤ 32001) where
-      pub no-readings : ((length input - 1) % 4 ≡ 0 → ⊥) → Lists input (refusedLine 15) []
-      no-readings h =
-          as-lent (odd mode (drop 1 input) known (let r = rest-length in omega arith) (λ e. h (ap (λ (n : ℕ). n % 4) (sym rest-length) ∙ e)))
+      within : length (mode ∷ drop 1 input) ≤ 32001
+      within = let r = rest-length in omega arith
 
-      pub listed : (length input - 1) % 4 ≡ 0 → Lists input (captureListing mode (readingsOf (drop 1 input))) (readingsOf (drop 1 input))
-      listed h =
-          as-lent (whole mode (drop 1 input) known (let r = rest-length in omega arith) (ap (λ (n : ℕ). n % 4) rest-length ∙ h))
+      pub capture-given : (length input - 1) % 4 ≡ 0 → Capture mode ≡ given input
+      unfolding given
+      capture-given h =
+          subst (λ (i : List ℕ). Capture mode ≡ given i) parts
+          (rw (le-ltb 1 mode known, le-ltb 32001 (length (mode ∷ drop 1 input)) within, eq-eqb (length (drop 1 input) % 4) 0 (ap (λ (n : ℕ). n % 4) rest-length ∙ h)))
+
+      pub odd-given : ((length input - 1) % 4 ≡ 0 → ⊥) → Refused Odd ≡ given input
+      unfolding given
+      odd-given h =
+          subst (λ (i : List ℕ). Refused Odd ≡ given i) parts
+          (rw (
+            le-ltb 1 mode known,
+            le-ltb 32001 (length (mode ∷ drop 1 input)) within,
+            ne-eqb (length (drop 1 input) % 4) 0 (λ e. h (ap (λ (n : ℕ). n % 4) (sym rest-length) ∙ e)),
+          ))
+
+-- A capture's input has a byte for the mode, 0 or 1, and is short enough.
+pub record Captures (input : List ℕ) (mode : ℕ) : Type 0 where
+  pub some : 1 ≤ length input
+  pub short : length input ≤ 32001
+  pub low : mode < 2
+
+pub captures : (input : List ℕ) (mode : ℕ) → given input ≡ Capture mode → Captures input mode
+unfolding given
+captures [] mode h = absurd (let z : _≡_ {A = ℕ} 0 1 = cc h in omega arith)
+captures (m ∷ bytes) mode h = by (ltb 1 m) refl (ltb 32001 (length (m ∷ bytes))) refl (eqb (length bytes % 4) 0) h
+  where
+    by : (s : Bool) → ltb 1 m ≡ s → (t : Bool) → ltb 32001 (length (m ∷ bytes)) ≡ t → (u : Bool)
+        → cond s (Refused Mode) (cond t (Refused Room) (cond u (Capture m) (Refused Odd))) ≡ Capture mode → Captures (m ∷ bytes) mode
+    by true e t f u h = absurd (let z : _≡_ {A = ℕ} 0 1 = cc h in omega arith)
+    by false e true f u h = absurd (let z : _≡_ {A = ℕ} 0 1 = cc h in omega arith)
+    by false e false f false h = absurd (let z : _≡_ {A = ℕ} 0 1 = cc h in omega arith)
+    by false e false f true h =
+        let same : m ≡ mode = cc h in
+        record { some = omega arith; short = ltb-false 32001 (length (m ∷ bytes)) f; low = let l = ltb-false 1 m e in omega arith }
 
 -- The head of a list that was put there.
 pub head-taken : (entries before list : List ℕ) (count : ℕ) → list ≡ headed entries before → count ≡ length entries → take count list ≡ entries

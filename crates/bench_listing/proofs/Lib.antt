@@ -1,11 +1,8 @@
 pub mod PlacingLaws
 pub mod NumberLaws
-pub mod AttemptLaws
 pub mod LineLaws
 pub mod ReadingLaws
 pub mod WalkLaws
 pub mod InputLaws
 pub mod ListingLength
 pub mod ListingExamples
-pub mod EndingLaws
-pub mod EveryAttempt

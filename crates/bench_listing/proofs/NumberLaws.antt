@@ -67,18 +67,7 @@ last-digits b (suc k) n h =
     split : n % b ^ suc k ≡ (n / b % b ^ k) * b + n % b
     split = ap (λ (x : ℕ). n % x) (pow-suc b k) ∙ mod-mul n {m = b ^ k} {c = b} (one-le-pow k b h) h
 
-hex-low : (w : ℕ) → hexDigits (w % 281474976710656) ≡ hexDigits w
-unfolding hexDigits
-hex-low w = last-digits 16 12 w (omega arith)
-
--- A value of which only the lower 56 bits are kept has the same twelve digits.
-pub hex-kept : (w : ℕ) → hexDigits (w % 72057594037927936) ≡ hexDigits w
-hex-kept w =
-    sym (hex-low (w % 72057594037927936))
-    ∙ ap hexDigits (let e : w % 72057594037927936 % 281474976710656 ≡ w % 281474976710656 = omega arith in e)
-    ∙ hex-low w
-
-twelve : (n k : ℕ) → n < 281474976710656 → Fewest 16 12 n k → k ≡ 12
+twelve : (n k : ℕ) → n < 2 ^ 48 → Fewest 16 12 n k → k ≡ 12
 twelve n k h f = among (ltb 12 k) refl
   where
     among : (t : Bool) → ltb 12 k ≡ t → k ≡ 12
@@ -88,7 +77,7 @@ twelve n k h f = among (ltb 12 k) refl
         let p : 16 ^ 12 ≤ 16 ^ (k - 1) = pow-le-pow-right {n = 16} (omega arith) {i = 12} {j = k - 1} (omega arith) in absurd (omega arith)
     among false e = let l = ltb-false 12 k e in let m = f .0 in omega arith
 
-pub as-word : (w k : ℕ) (text : List ℕ) → Fewest 16 12 (w % 281474976710656) k → text ≡ digits 16 k (w % 281474976710656) → text ≡ hexDigits w
+pub as-word : (w k : ℕ) (text : List ℕ) → Fewest 16 12 (w % 2 ^ 48) k → text ≡ digits 16 k (w % 2 ^ 48) → text ≡ hexDigits w
 unfolding hexDigits
 as-word w k text f e =
-    e ∙ ap (λ (j : ℕ). digits 16 j (w % 281474976710656)) (twelve (w % 281474976710656) k (omega arith) f) ∙ last-digits 16 12 w (omega arith)
+    e ∙ ap (λ (j : ℕ). digits 16 j (w % 2 ^ 48)) (twelve (w % 2 ^ 48) k (omega arith) f) ∙ last-digits 16 12 w (omega arith)

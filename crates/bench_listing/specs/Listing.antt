@@ -1,94 +1,108 @@
 -- 01, "The bench listing".
-use Prim.Native.Nat.{ℕ, zero, suc, _+_, _*_, _%_}
-use mathlib.Core.Bool.{Bool, cond}
+use Prim.Native.Nat.{ℕ, _+_, _*_, _%_}
+use mathlib.Core.Bool.{Bool, true, false}
 use mathlib.Core.List.{List, [], _∷_, _++_}
-use lib.Dec.{eqb, ltb}
-use lib.ListN.{length, getD}
-use Rattle.answers.specs.Answers.{Said}
-use Rattle.line_captures.specs.Captures.{readOf}
-use Rattle.bench_listing.specs.Words.{lineFeed, space, modeWord, modeName, edgesWord, goodWord, gapWord, cutWord, checkWord, pagesWord, badWord, refusedWord, decimal, hexDigits}
-
--- "readings of four bytes, low first". Fewer than four bytes are no reading.
-unfoldable pub readingsOf : List ℕ → List ℕ
-readingsOf [] = []
-readingsOf (a ∷ []) = []
-readingsOf (a ∷ b ∷ []) = []
-readingsOf (a ∷ b ∷ c ∷ []) = []
-readingsOf (a ∷ b ∷ c ∷ d ∷ rest) = (a + 256 * b + 65536 * c + 16777216 * d) ∷ readingsOf rest
-
--- The reading whose four bytes stand in a list from an index on.
-abbrev pub readingFrom : List ℕ → ℕ → ℕ
-readingFrom bytes at = getD bytes at 0 + 256 * getD bytes (at + 1) 0 + 65536 * getD bytes (at + 2) 0 + 16777216 * getD bytes (at + 3) 0
-
--- What is said at each attempt of a capture, in order: the read call goes from place to next place until the place is the length. The
--- first argument bounds the number of attempts. In modes 0 and 1 each next place is greater than the place, so as many as there are readings suffice.
-unfoldable pub attemptsFrom : ℕ → ℕ → List ℕ → ℕ → List Said
-attemptsFrom zero mode capture place = []
-attemptsFrom (suc more) mode capture place =
-    let attempt = readOf mode capture place in
-    cond (ltb place (length capture)) (attempt .says ∷ attemptsFrom more mode capture (attempt .next)) []
-
-unfoldable pub attempts : ℕ → List ℕ → List Said
-attempts mode capture = attemptsFrom (length capture) mode capture 0
-
--- Whether an attempt gave a good page.
-abbrev pub isGood : Said → Bool
-isGood s = eqb (s .kind) 0x80
-
--- "The zero page alone gives `1 good 000000000000` (12 hex digits, small letters) as its line; other words are `gap` and `check`", and
--- `cut` in the example. An attempt that is not good ends as Gap (1), Cut (2) or Check (3), and in no other way.
-unfoldable pub outcomeWord : Said → List ℕ
-outcomeWord s =
-    cond (isGood s) (goodWord ++ hexDigits (s .value)) (cond (eqb (s .kind) 1) gapWord (cond (eqb (s .kind) 2) cutWord checkWord))
-
--- "Each attempt has one line, numbered from 1."
-unfoldable pub attemptLine : ℕ → Said → List ℕ
-attemptLine n s = decimal n ++ (space ++ (outcomeWord s ++ lineFeed))
-
--- The lines of attempts, the first of which has this number.
-unfoldable pub attemptLines : ℕ → List Said → List ℕ
-attemptLines n [] = []
-attemptLines n (s ∷ rest) = attemptLine n s ++ attemptLines (n + 1) rest
-
--- The number of good pages.
-unfoldable pub goodOnes : List Said → ℕ
-goodOnes [] = 0
-goodOnes (s ∷ rest) = cond (isGood s) 1 0 + goodOnes rest
-
--- "`bad` counts every attempt that isn't good".
-unfoldable pub badOnes : List Said → ℕ
-badOnes [] = 0
-badOnes (s ∷ rest) = cond (isGood s) 0 1 + badOnes rest
-
--- "mode HSM edges 3": all readings are counted, dropped ones too.
-unfoldable pub firstLine : ℕ → ℕ → List ℕ
-firstLine mode edges = modeWord ++ (modeName mode ++ (edgesWord ++ (decimal edges ++ lineFeed)))
-
--- "pages 0 bad 1"
-unfoldable pub lastLine : ℕ → ℕ → List ℕ
-lastLine pages bad = pagesWord ++ (decimal pages ++ (badWord ++ (decimal bad ++ lineFeed)))
-
--- The listing of a capture, asked in modes 0 and 1 and of at most 8 000 readings only. "With no readings the two outer lines stand alone, all counts 0."
-unfoldable pub captureListing : ℕ → List ℕ → List ℕ
-captureListing mode capture =
-    let found = attempts mode capture in
-    firstLine mode (length capture) ++ (attemptLines 1 found ++ lastLine (goodOnes found) (badOnes found))
-
--- "one line `refused 14`"
-unfoldable pub refusedLine : ℕ → List ℕ
-refusedLine n = refusedWord ++ (decimal n ++ lineFeed)
+use lib.ListN.{length, getD, drop}
+use Rattle.answers.specs.Choices.{if_then_else_, _<?_, _=?_}
+use Rattle.answers.specs.declared.Refusal.{Refusal}
+use Rattle.answers.specs.declared.Refusal.the-variants.{Room, Mode, Odd}
+use Rattle.answers.specs.Numbers.{numberOf}
+use Rattle.line_reader.specs.declared.endings.Ending.{Ending}
+use Rattle.line_reader.specs.declared.endings.Ending.the-variants.{Good, Gap, Cut, Check}
+use Rattle.line_captures.specs.Captures.{attempts}
+use Rattle.bench_listing.specs.declared.input.Given.{Given}
+use Rattle.bench_listing.specs.declared.input.Given.the-variants.{Refused, Capture}
+use Rattle.bench_listing.specs.Words.{text, decimal, hexDigits}
 
 -- "Input: a mode byte, then readings of four bytes, low first, at most 8 000. Otherwise one line `refused 14` (mode missing or wrong),
 -- `refused 12` (over 32 001 bytes) or `refused 15` (the bytes after the first are no multiple of four), in that order."
-unfoldable pub listing : List ℕ → List ℕ
-listing [] = refusedLine 14
-listing (mode ∷ bytes) =
-    cond (ltb 1 mode) (refusedLine 14)
-    (cond (ltb 32001 (length (mode ∷ bytes))) (refusedLine 12)
-    (cond (eqb (length bytes % 4) 0) (captureListing mode (readingsOf bytes)) (refusedLine 15)))
+unfoldable pub given : (input : List ℕ) → Given
+given [] = Refused Mode
+given (mode ∷ bytes) =
+    if 1 <? mode then Refused Mode
+    else if 32001 <? length (mode ∷ bytes) then Refused Room
+    else if length bytes % 4 =? 0 then Capture mode
+    else Refused Odd
 
--- The readings that are listed; none if the input is refused.
-unfoldable pub listedReadings : List ℕ → List ℕ
-listedReadings [] = []
-listedReadings (mode ∷ bytes) =
-    cond (ltb 1 mode) [] (cond (ltb 32001 (length (mode ∷ bytes))) [] (cond (eqb (length bytes % 4) 0) (readingsOf bytes) []))
+-- "readings of four bytes, low first". Fewer than four bytes are no reading.
+unfoldable pub readingsOf : (bytes : List ℕ) → List ℕ
+readingsOf (a ∷ b ∷ c ∷ d ∷ rest) = (a + 256 * b + 65536 * c + 16777216 * d) ∷ readingsOf rest
+readingsOf (a ∷ b ∷ c ∷ []) = []
+readingsOf (a ∷ b ∷ []) = []
+readingsOf (a ∷ []) = []
+readingsOf [] = []
+
+-- The reading whose four bytes stand in a list from an index on.
+abbrev pub readingFrom : (bytes : List ℕ) (at : ℕ) → ℕ
+readingFrom bytes at = getD bytes at 0 + 256 * getD bytes (at + 1) 0 + 65536 * getD bytes (at + 2) 0 + 16777216 * getD bytes (at + 3) 0
+
+-- "The zero page alone gives `1 good 000000000000` (12 hex digits, small letters) as its line; other words are `gap` and `check`", and
+-- `cut` in the example.
+abbrev pub endingWord : Ending → List ℕ
+endingWord (Good word) = text "good " ++ hexDigits word
+endingWord Gap = text "gap"
+endingWord Cut = text "cut"
+endingWord Check = text "check"
+
+-- "Each attempt has one line, numbered from 1."
+unfoldable pub attemptLine : (n : ℕ) → Ending → List ℕ
+attemptLine n ending = decimal n ++ text " " ++ endingWord ending ++ text "\n"
+
+-- The lines of attempts, the first of which has this number.
+unfoldable pub attemptLines : (n : ℕ) → List Ending → List ℕ
+attemptLines n [] = []
+attemptLines n (ending ∷ rest) = attemptLine n ending ++ attemptLines (n + 1) rest
+
+-- Whether an attempt gave a good page.
+abbrev pub isGood : Ending → Bool
+isGood (Good word) = true
+isGood Gap = false
+isGood Cut = false
+isGood Check = false
+
+-- The number of good pages.
+unfoldable pub goodOnes : List Ending → ℕ
+goodOnes [] = 0
+goodOnes (ending ∷ rest) = (if isGood ending then 1 else 0) + goodOnes rest
+
+-- "`bad` counts every attempt that isn't good".
+unfoldable pub badOnes : List Ending → ℕ
+badOnes [] = 0
+badOnes (ending ∷ rest) = (if isGood ending then 0 else 1) + badOnes rest
+
+-- "mode HSM edges 3": all readings are counted, dropped ones too. "mode 1 prints LSM"
+abbrev pub modeName : (mode : ℕ) → List ℕ
+modeName mode = if mode =? 1 then text "LSM" else text "HSM"
+
+unfoldable pub firstLine : (mode edges : ℕ) → List ℕ
+firstLine mode edges = text "mode " ++ modeName mode ++ text " edges " ++ decimal edges ++ text "\n"
+
+-- "pages 0 bad 1"
+unfoldable pub lastLine : (pages bad : ℕ) → List ℕ
+lastLine pages bad = text "pages " ++ decimal pages ++ text " bad " ++ decimal bad ++ text "\n"
+
+-- The listing of a capture, asked in modes 0 and 1 and of at most 8 000 readings only. "With no readings the two outer lines stand alone, all counts 0."
+unfoldable pub captureListing : (mode : ℕ) (capture : List ℕ) → List ℕ
+captureListing mode capture =
+    let found = attempts mode capture in
+    firstLine mode (length capture) ++ attemptLines 1 found ++ lastLine (goodOnes found) (badOnes found)
+
+-- "one line `refused 14`"
+unfoldable pub refusedLine : Refusal → List ℕ
+refusedLine refusal = text "refused " ++ decimal (numberOf refusal) ++ text "\n"
+
+-- The listing by what is given, where these are the bytes behind the mode,
+abbrev pub listingBy : Given → (bytes : List ℕ) → List ℕ
+listingBy (Refused refusal) bytes = refusedLine refusal
+listingBy (Capture mode) bytes = captureListing mode (readingsOf bytes)
+
+-- and the readings that are listed.
+abbrev pub readingsBy : Given → (bytes : List ℕ) → List ℕ
+readingsBy (Refused refusal) bytes = []
+readingsBy (Capture mode) bytes = readingsOf bytes
+
+unfoldable pub listing : (input : List ℕ) → List ℕ
+listing input = listingBy (given input) (drop 1 input)
+
+unfoldable pub listedReadings : (input : List ℕ) → List ℕ
+listedReadings input = readingsBy (given input) (drop 1 input)

@@ -1,34 +1,50 @@
 // The listing of a capture.
+ghost use mathlib.Core.Path.{_≡_};
 ghost use Prim.Native.Nat.{_<_, _≤_};
 ghost use lib.ListN.{length};
+ghost use Rattle.answers.specs.Choices.{if_then_else_};
 ghost use Rattle.bench_listing.specs.Placing.{Puts};
-ghost use Rattle.bench_listing.specs.Listing.{captureListing};
+ghost use Rattle.bench_listing.specs.Listing.{isGood, captureListing};
 use crate::text::put_attempt;
 use crate::text::put_first_line;
 use crate::text::put_last_line;
-use answers::KIND;
+use line_captures::ReadOutcome;
+use line_reader::Ending;
+
+// One for a good page, and none for another attempt.
+fn good_one(ending: Ending) -> usize
+    ensures count { λ r. ⌜ r ≡ (if isGood ending then 1 else 0) ⌝ }
+    ensures few { λ r. ⌜ r ≤ 1 ⌝ }
+{
+    match ending {
+        Ending::Good(word) => 1,
+        Ending::Gap => 0,
+        Ending::Cut => 0,
+        Ending::Check => 0,
+    }
+}
 
 // The first line, a line for each attempt from place to next place, and the last line.
 pub(crate) fn list_capture(capture: &[u32], mode: u32, output: &mut [u8]) -> usize
-    requires { ⌜ (mode < 2) × (length (now capture) ≤ 8000) × (184040 ≤ length (now output)) ⌝ }
+    requires { ⌜ (length (now capture) ≤ 8000) × (184040 ≤ length (now output)) ⌝ }
     ensures { λ r. ⌜ Puts (now (output .entry)) 0 (captureListing mode (now (capture .entry))) (now (output .exit)) r ⌝ }
 {
     let mut at = put_first_line(output, mode, capture.len());
     let mut place: usize = 0;
+    let mut number: usize = 0;
     let mut pages: usize = 0;
-    let mut bad: usize = 0;
-    while place < capture.len() {
-        let attempt = line_captures::read(capture, place, mode);
-        let answer = attempt.answer;
-        let packed = answer.packed();
-        let kind = packed / KIND;
-        at = put_attempt(output, at, pages + bad + 1, kind, packed % KIND);
-        if kind == 128 {
-            pages += 1;
-        } else {
-            bad += 1;
+    loop {
+        match line_captures::read(capture, place, mode) {
+            ReadOutcome::Attempt { ending, next } => {
+                number += 1;
+                pages += good_one(ending);
+                at = put_attempt(output, at, number, ending);
+                place = next;
+            }
+            ReadOutcome::UnknownMode => break,
+            ReadOutcome::PastTheEnd => break,
+            ReadOutcome::AtTheEnd => break,
         }
-        place = attempt.next;
     }
-    put_last_line(output, at, pages, bad)
+    put_last_line(output, at, pages, number - pages)
 }

@@ -4,10 +4,10 @@ ghost use Prim.Native.Nat.{_+_, _<_, _≤_};
 ghost use lib.ListN.{length, drop};
 ghost use Rattle.answers.specs.Answers.{said};
 ghost use Rattle.bench_listing.specs.Placing.{Puts, headed};
-ghost use Rattle.bench_listing.specs.Listing.{readingsOf, readingFrom, listing, listedReadings};
-ghost use Rattle.bench_listing.specs.Calls.{listSays, listReadings, listOutput};
+ghost use Rattle.bench_listing.specs.Listing.{given, readingsOf, readingFrom, listing, listedReadings};
+ghost use Rattle.bench_listing.specs.Calls.{listed};
 use crate::capture::list_capture;
-use crate::text::put_bytes;
+use crate::text::put_refusal;
 use answers::Answer;
 use answers::Refusal;
 
@@ -15,6 +15,12 @@ use answers::Refusal;
 const MOST_BYTES: usize = 184040;
 
 const MOST_READINGS: usize = 8000;
+
+// What an input is: refused, or a capture in mode 0 or 1.
+pub(crate) enum Given {
+    Refused(Refusal),
+    Capture { mode: u32 },
+}
 
 fn wide(byte: u8) -> u32
     ensures { λ r. ⌜ (r ≡ byte) × (r < 256) ⌝ }
@@ -50,34 +56,46 @@ fn decode(input: &[u8], readings: &mut [u32]) -> usize
     count
 }
 
+// What is given: an input that is refused, or a capture in a mode.
+fn what_is_given(input: &[u8]) -> Given
+    ensures { λ r. ⌜ r ≡ given (now (input .entry)) ⌝ }
+{
+    if input.len() == 0 {
+        return Given::Refused(Refusal::Mode);
+    }
+    let mode = wide(input[0]);
+    if 1 < mode {
+        return Given::Refused(Refusal::Mode);
+    }
+    if 32001 < input.len() {
+        return Given::Refused(Refusal::Room);
+    }
+    if (input.len() - 1) % 4 == 0 {
+        return Given::Capture { mode: mode };
+    }
+    Given::Refused(Refusal::Odd)
+}
+
 // The listing of an input, into lists that hold every one.
 fn list_input(input: &[u8], readings: &mut [u32], output: &mut [u8]) -> usize
     requires { ⌜ (8000 ≤ length (now readings)) × (184040 ≤ length (now output)) ⌝ }
     ensures text { λ r. ⌜ Puts (now (output .entry)) 0 (listing (now (input .entry))) (now (output .exit)) r ⌝ }
     ensures readings { λ _. ⌜ now (readings .exit) ≡ headed (listedReadings (now (input .entry))) (now (readings .entry)) ⌝ }
 {
-    if input.len() == 0 {
-        return put_bytes(output, 0, b"refused 14\n");
+    match what_is_given(input) {
+        Given::Refused(refusal) => put_refusal(output, refusal),
+        Given::Capture { mode } => {
+            let count = decode(input, readings);
+            list_capture(&readings[..count], mode, output)
+        }
     }
-    let mode = wide(input[0]);
-    if 1 < mode {
-        return put_bytes(output, 0, b"refused 14\n");
-    }
-    if 32001 < input.len() {
-        return put_bytes(output, 0, b"refused 12\n");
-    }
-    if (input.len() - 1) % 4 == 0 {
-        let count = decode(input, readings);
-        return list_capture(&readings[..count], mode, output);
-    }
-    put_bytes(output, 0, b"refused 15\n")
 }
 
 // Lists the input: the text at the head of the output, its readings at the head of the list of readings. Answers the text's length.
 pub fn list(input: &[u8], readings: &mut [u32], output: &mut [u8]) -> Answer
-    ensures says { λ r. ⌜ said r ≡ listSays (now (input .entry)) (now (readings .entry)) (now (output .entry)) ⌝ }
-    ensures readings { λ _. ⌜ now (readings .exit) ≡ listReadings (now (input .entry)) (now (readings .entry)) (now (output .entry)) ⌝ }
-    ensures output { λ _. ⌜ now (output .exit) ≡ listOutput (now (input .entry)) (now (readings .entry)) (now (output .entry)) ⌝ }
+    ensures says { λ r. ⌜ said r ≡ listed (now (input .entry)) (now (readings .entry)) (now (output .entry)) .says ⌝ }
+    ensures readings { λ _. ⌜ now (readings .exit) ≡ listed (now (input .entry)) (now (readings .entry)) (now (output .entry)) .readings ⌝ }
+    ensures output { λ _. ⌜ now (output .exit) ≡ listed (now (input .entry)) (now (readings .entry)) (now (output .entry)) .output ⌝ }
 {
     if readings.len() < MOST_READINGS {
         return Answer::Refused(Refusal::Room);

@@ -2,16 +2,14 @@
 ghost use mathlib.Core.Path.{_≡_};
 ghost use Prim.Native.Nat.{_+_, _<_, _≤_};
 ghost use lib.ListN.{length};
-ghost use Rattle.answers.specs.Answers.{saying};
 ghost use Rattle.bench_listing.specs.Placing.{Puts};
 ghost use Rattle.bench_listing.specs.Words.{decimal, hexDigits};
-ghost use Rattle.bench_listing.specs.Listing.{firstLine, attemptLine, lastLine};
-
-// 2^48: the first number that is no word.
-const WIDE: u64 = 281474976710656;
+ghost use Rattle.bench_listing.specs.Listing.{modeName, firstLine, endingWord, attemptLine, lastLine, refusedLine};
+use answers::Refusal;
+use line_reader::Ending;
 
 // All of some bytes.
-pub(crate) fn put_bytes(output: &mut [u8], at: usize, bytes: &[u8]) -> usize
+fn put_bytes(output: &mut [u8], at: usize, bytes: &[u8]) -> usize
     requires { ⌜ at + length (now bytes) ≤ length (now output) ⌝ }
     ensures { λ r. ⌜ Puts (now (output .entry)) at (now (bytes .entry)) (now (output .exit)) r ⌝ }
 {
@@ -41,8 +39,20 @@ fn put_word(output: &mut [u8], at: usize, word: u64) -> usize
     ensures long { λ r. ⌜ r ≡ at + 12 ⌝ }
 {
     let mut digits = [0u8; 16];
-    let count = io::hex(word % WIDE, 12, &mut digits);
+    let count = io::hex(word % page_word::WIDE, 12, &mut digits);
     put_bytes(output, at, &digits[..count])
+}
+
+// The name of mode 0 or 1.
+fn put_mode(output: &mut [u8], at: usize, mode: u32) -> usize
+    requires { ⌜ at + 3 ≤ length (now output) ⌝ }
+    ensures text { λ r. ⌜ Puts (now (output .entry)) at (modeName mode) (now (output .exit)) r ⌝ }
+    ensures long { λ r. ⌜ r ≡ at + 3 ⌝ }
+{
+    if mode == 1 {
+        return put_bytes(output, at, b"LSM");
+    }
+    put_bytes(output, at, b"HSM")
 }
 
 // The first line: the mode and the number of readings.
@@ -51,41 +61,40 @@ pub(crate) fn put_first_line(output: &mut [u8], mode: u32, edges: usize) -> usiz
     ensures text { λ r. ⌜ Puts (now (output .entry)) 0 (firstLine mode edges) (now (output .exit)) r ⌝ }
     ensures short { λ r. ⌜ r ≤ 20 ⌝ }
 {
-    if mode == 1 {
-        let named = put_bytes(output, 0, b"mode LSM edges ");
-        let counted = put_decimal(output, named, edges);
-        return put_bytes(output, counted, b"\n");
-    }
-    let named = put_bytes(output, 0, b"mode HSM edges ");
-    let counted = put_decimal(output, named, edges);
+    let led = put_bytes(output, 0, b"mode ");
+    let named = put_mode(output, led, mode);
+    let edged = put_bytes(output, named, b" edges ");
+    let counted = put_decimal(output, edged, edges);
     put_bytes(output, counted, b"\n")
 }
 
-// An attempt's line: its number, and how it ended by the kind and the value of the answer.
-pub(crate) fn put_attempt(
-    output: &mut [u8],
-    at: usize,
-    number: usize,
-    kind: u64,
-    value: u64,
-) -> usize
+// How an attempt ended.
+fn put_ending(output: &mut [u8], at: usize, ending: Ending) -> usize
+    requires { ⌜ at + 17 ≤ length (now output) ⌝ }
+    ensures text { λ r. ⌜ Puts (now (output .entry)) at (endingWord ending) (now (output .exit)) r ⌝ }
+    ensures short { λ r. ⌜ r ≤ at + 17 ⌝ }
+{
+    match ending {
+        Ending::Good(word) => {
+            let named = put_bytes(output, at, b"good ");
+            put_word(output, named, word)
+        }
+        Ending::Gap => put_bytes(output, at, b"gap"),
+        Ending::Cut => put_bytes(output, at, b"cut"),
+        Ending::Check => put_bytes(output, at, b"check"),
+    }
+}
+
+// An attempt's line: its number, and how it ended.
+pub(crate) fn put_attempt(output: &mut [u8], at: usize, number: usize, ending: Ending) -> usize
     requires { ⌜ (number < 10000) × (at + 23 ≤ length (now output)) ⌝ }
-    ensures text { λ r. ⌜ Puts (now (output .entry)) at (attemptLine number (saying kind value)) (now (output .exit)) r ⌝ }
+    ensures text { λ r. ⌜ Puts (now (output .entry)) at (attemptLine number ending) (now (output .exit)) r ⌝ }
     ensures short { λ r. ⌜ r ≤ at + 23 ⌝ }
 {
     let numbered = put_decimal(output, at, number);
-    if kind == 128 {
-        let named = put_bytes(output, numbered, b" good ");
-        let told = put_word(output, named, value);
-        return put_bytes(output, told, b"\n");
-    }
-    if kind == 1 {
-        return put_bytes(output, numbered, b" gap\n");
-    }
-    if kind == 2 {
-        return put_bytes(output, numbered, b" cut\n");
-    }
-    put_bytes(output, numbered, b" check\n")
+    let spaced = put_bytes(output, numbered, b" ");
+    let told = put_ending(output, spaced, ending);
+    put_bytes(output, told, b"\n")
 }
 
 // The last line: the numbers of good pages and of other attempts.
@@ -98,4 +107,14 @@ pub(crate) fn put_last_line(output: &mut [u8], at: usize, pages: usize, bad: usi
     let named_too = put_bytes(output, counted, b" bad ");
     let counted_too = put_decimal(output, named_too, bad);
     put_bytes(output, counted_too, b"\n")
+}
+
+// The one line of an input that is refused.
+pub(crate) fn put_refusal(output: &mut [u8], refusal: Refusal) -> usize
+    requires { ⌜ 13 ≤ length (now output) ⌝ }
+    ensures { λ r. ⌜ Puts (now (output .entry)) 0 (refusedLine refusal) (now (output .exit)) r ⌝ }
+{
+    let named = put_bytes(output, 0, b"refused ");
+    let numbered = put_decimal(output, named, refusal.number() as usize);
+    put_bytes(output, numbered, b"\n")
 }

@@ -5,6 +5,7 @@ ghost use lib.ListN.{length};
 use crate::runs::run;
 use answers::Answer;
 use answers::Refusal;
+use line_captures::ReadOutcome;
 use line_mode::LineMode;
 use line_reader::Reader;
 
@@ -108,6 +109,16 @@ fn tell_two(answers: &mut [u64; 65536], told: usize, answer: u64, more: u64) -> 
     told + 3
 }
 
+// Where the next attempt opens; the place itself if there is none.
+fn next_place(outcome: ReadOutcome, place: usize) -> usize {
+    match outcome {
+        ReadOutcome::UnknownMode => place,
+        ReadOutcome::PastTheEnd => place,
+        ReadOutcome::AtTheEnd => place,
+        ReadOutcome::Attempt { ending, next } => next,
+    }
+}
+
 // Operation 4: mode, place, and the capture's readings.
 fn read(
     cells: &[u64; 65536],
@@ -124,8 +135,8 @@ fn read(
     take_entries(cells, from + 2, count, list);
     let place = cells[from + 1] as usize;
     let outcome = line_captures::read(&list[..count], place, mode_of(cells[from]));
-    let answer = outcome.answer;
-    tell_two(answers, told, answer.packed(), outcome.next as u64)
+    let next = next_place(outcome, place);
+    tell_two(answers, told, outcome.answer().packed(), next as u64)
 }
 
 // Operation 5: own, partner.
@@ -163,9 +174,9 @@ fn tell_edges(
     let mut i: usize = 0;
     while i < count {
         let step = reader.edge(mode, low_half(cells[from + i]));
-        let answer = step.answer;
+        let heard = step.heard;
         reader = step.reader;
-        answers[told + i] = answer.packed();
+        answers[told + i] = heard.answer().packed();
         i += 1;
     }
 }

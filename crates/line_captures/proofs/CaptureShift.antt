@@ -3,13 +3,14 @@ use mathlib.Core.Path.{_≡_, refl, ap, ap₂, _∙_}
 use mathlib.Core.Bool.{Bool, cond}
 use mathlib.Core.List.{List, [], _∷_, map}
 use Prim.Native.Nat.{ℕ, _+_, _%_, _^_}
-use lib.Dec.{eqb}
 use Rattle.line_mode.specs.declared.modes.LineMode.{LineMode}
+use Rattle.line_reader.specs.declared.reader.Step.{Step}
 use Rattle.line_reader.specs.declared.reader.Reader.{Reader}
 use Rattle.line_reader.specs.declared.reader.Reader.the-variants.{Fresh, Open, Dropping}
-use Rattle.line_reader.specs.Reading.{Brings, edgeOf}
+use Rattle.line_reader.specs.Reading.{edgeOf}
 use Rattle.line_reader.proofs.ClockShift.{later, edge-later}
-use Rattle.line_captures.specs.Captures.{Attempt, ends, isOpen, opensAt, attemptOf}
+use Rattle.line_captures.specs.declared.captures.ReadOutcome.{ReadOutcome}
+use Rattle.line_captures.specs.Captures.{isOpen, opensAt, endsAt, attemptOf}
 
 -- A capture whose readings are all later by δ.
 abbrev pub allLater : ℕ → List ℕ → List ℕ
@@ -25,7 +26,7 @@ opens-later : (m : LineMode) (δ : ℕ) (r : Reader) (capture : List ℕ) (at : 
 unfolding opensAt
 opens-later m δ r [] at = refl
 opens-later m δ r (x ∷ rest) at =
-    ap (λ (b : Brings). cond (isOpen (b .reader)) at (opensAt m (b .reader) (allLater δ rest) (at + 1))) (edge-later m δ r x)
+    ap (λ (b : Step). cond (isOpen (b .reader)) at (opensAt m (b .reader) (allLater δ rest) (at + 1))) (edge-later m δ r x)
     ∙ ap₂ (λ (t : Bool) (n : ℕ). cond t at n) (open-later δ (edgeOf m r x .reader)) (opens-later m δ (edgeOf m r x .reader) rest (at + 1))
 
 -- and the capture is answered alike.
@@ -34,8 +35,5 @@ pub attempt-later : (m : LineMode) (δ : ℕ) (r : Reader) (capture : List ℕ) 
 unfolding attemptOf
 attempt-later m δ r [] at = refl
 attempt-later m δ r (x ∷ rest) at =
-    ap (λ (b : Brings). cond (eqb (b .says .kind) 0) (attemptOf m (b .reader) (allLater δ rest) (at + 1))
-    (ends (b .says) (cond (isOpen (b .reader)) at (opensAt m (b .reader) (allLater δ rest) (at + 1))))) (edge-later m δ r x)
-    ∙ ap₂ (λ (a : Attempt) (n : ℕ). cond (eqb (edgeOf m r x .says .kind) 0) a (ends (edgeOf m r x .says) n))
-    (attempt-later m δ (edgeOf m r x .reader) rest (at + 1))
-    (ap₂ (λ (t : Bool) (n : ℕ). cond t at n) (open-later δ (edgeOf m r x .reader)) (opens-later m δ (edgeOf m r x .reader) rest (at + 1)))
+    ap₂ (λ (b : Step) (n : ℕ). endsAt (b .heard) (attemptOf m (b .reader) (allLater δ rest) (at + 1)) n) (edge-later m δ r x) (opens-later m δ r (x ∷ rest) at)
+    ∙ ap (λ (o : ReadOutcome). endsAt (edgeOf m r x .heard) o (opensAt m r (x ∷ rest) at)) (attempt-later m δ (edgeOf m r x .reader) rest (at + 1))

@@ -25,13 +25,13 @@ near-judged m (suc (suc (suc (suc zero)))) gap a l u h = counts-four m a gap h
 near-judged m (suc (suc (suc (suc (suc k))))) gap a l u h = absurd (omega arith)
 
 -- Counts that pass, and gaps near them.
-pub all-judged : (m : LineMode) (slow : Bool) (p : ℕ) (ks times : List ℕ) → Apart m → passes slow p ks ≡ true → Forall₂ (Near m) ks times
+pub all-judged : (m : LineMode) (p : ℕ) (ks times : List ℕ) → Apart m → passes m p ks ≡ true → Forall₂ (Near m) ks times
     → map (judgementOf m) times ≡ map Positions ks
-all-judged m slow p ks times a h Forall₂·nil = refl
-all-judged m slow p ks times a h (Forall₂·cons {a = k} {b = gap} {l₁ = later} {l₂ = rest} near further) =
-    let c = passed slow p k later h in
+all-judged m p ks times a h Forall₂·nil = refl
+all-judged m p ks times a h (Forall₂·cons {a = k} {b = gap} {l₁ = later} {l₂ = rest} near further) =
+    let c = passed m p k later h in
     ap₂ (λ (j : Judgement) (l : List Judgement). j ∷ l) (near-judged m k gap a (c .least) (c .most) near)
-    (all-judged m slow (p + k) later rest a (c .on) further)
+    (all-judged m (p + k) later rest a (c .on) further)
 
 -- A gap that is judged to be so many positions.
 pub record Counted (m : LineMode) (gap k : ℕ) : Type 0 where
@@ -40,7 +40,7 @@ pub record Counted (m : LineMode) (gap k : ℕ) : Type 0 where
   pub near : Near m k gap
 
 -- A gap within a window lies in it.
-within-near : (m : LineMode) (k gap : ℕ) → within m k gap ≡ true → Near m k gap
+pub within-near : (m : LineMode) (k gap : ℕ) → within m k gap ≡ true → Near m k gap
 within-near m k gap h =
     record {
       least = leb-true (k * m .spacing) (gap + m .tolerance) (and-left (leb (k * m .spacing) (gap + m .tolerance)) (leb gap (k * m .spacing + m .tolerance)) h);

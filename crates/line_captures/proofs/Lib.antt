@@ -12,5 +12,6 @@ pub mod SinceOpened
 pub mod CaptureShift
 pub mod WriteThenRead
 pub mod ReadTheorem
-pub mod ReadCalls
 pub mod Walk
+pub mod SaysPage
+pub mod ReadingProved

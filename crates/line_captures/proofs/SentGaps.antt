@@ -8,12 +8,14 @@ use native.Mathlib.Nat.{add-zero, add-suc, suc-add}
 use native.Mathlib.Omega.{arith}
 use lib.ListN.{length, length-append}
 use lib.Seq.{getD-at}
-use Rattle.line_mode.specs.Delimiters.{hsmDelimiter, lsmDelimiter}
+use Rattle.line_mode.specs.declared.modes.LineMode.{LineMode}
+use Rattle.line_page.specs.Pattern.{delimiterOf, standsAt}
+use Rattle.line_page.proofs.Positions.{by-delimiter}
 use Rattle.line_writer.specs.Transitions.{hasTransition, positionsTo, transitions, sentBits}
 use Rattle.line_writer.proofs.PagePattern.{at-clock, at-bit, at-156}
 use Rattle.line_writer.proofs.SentBits.{sent-length}
 use Rattle.line_writer.proofs.WritingLoop.{more-yes, more-no}
-use Rattle.line_captures.proofs.EdgeRuns.{gapsAfter, gaps}
+use Rattle.line_captures.specs.ReadingBack.{gapsAfter, gaps}
 use Rattle.line_captures.proofs.GapMachine.{delimiterGaps, dataGaps, gapsOf}
 
 -- The n positions from p on for which a test holds.
@@ -61,62 +63,62 @@ span-length [] = refl
 span-length (b ∷ bits) = let h = span-length bits in omega arith
 
 -- The transitions from the clock before the bits on, where `before` are the bits that came earlier.
-from-clock : (slow : Bool) (before bits : List Bool) (p : ℕ) → length before + length bits ≡ 64 → p ≡ 27 + 2 * length before
-    → positionsFrom (hasTransition slow (before ++ bits)) p (span bits) ≡ p ∷ afterClock p bits
-from-clock slow before [] p l e =
+from-clock : (mode : LineMode) (before bits : List Bool) (p : ℕ) → length before + length bits ≡ 64 → p ≡ 27 + 2 * length before
+    → positionsFrom (hasTransition mode (before ++ bits)) p (span bits) ≡ p ∷ afterClock p bits
+from-clock mode before [] p l e =
     rw (
-      at-clock slow (before ++ []) p (omega arith) (omega arith) (omega arith),
-      at-156 slow (before ++ []) (suc p) (omega arith) (omega arith) (λ o. omega arith),
-      at-clock slow (before ++ []) (suc (suc p)) (omega arith) (omega arith) (omega arith),
+      at-clock mode (before ++ []) p (omega arith) (omega arith) (omega arith),
+      at-156 mode (before ++ []) (suc p) (omega arith) (omega arith) (λ o. omega arith),
+      at-clock mode (before ++ []) (suc (suc p)) (omega arith) (omega arith) (omega arith),
     ) (ap (λ (q : ℕ). p ∷ q ∷ []) (omega arith))
-from-clock slow before (b ∷ bits) p l e =
-    rw (at-clock slow (before ++ (b ∷ bits)) p (omega arith) (omega arith) (omega arith), value)
-    (ap (λ (r : List ℕ). p ∷ r) (by b (positionsFrom (hasTransition slow (before ++ (b ∷ bits))) (suc (suc p)) (span bits))
-    (again ∙ let long = length-append before (b ∷ []) in from-clock slow (before ++ (b ∷ [])) bits (p + 2) (omega arith) (omega arith))))
+from-clock mode before (b ∷ bits) p l e =
+    rw (at-clock mode (before ++ (b ∷ bits)) p (omega arith) (omega arith) (omega arith), value)
+    (ap (λ (r : List ℕ). p ∷ r) (by b (positionsFrom (hasTransition mode (before ++ (b ∷ bits))) (suc (suc p)) (span bits))
+    (again ∙ let long = length-append before (b ∷ []) in from-clock mode (before ++ (b ∷ [])) bits (p + 2) (omega arith) (omega arith))))
   where
-    value : hasTransition slow (before ++ (b ∷ bits)) (suc p) ≡ b
+    value : hasTransition mode (before ++ (b ∷ bits)) (suc p) ≡ b
     value =
-        at-bit slow (before ++ (b ∷ bits)) (suc p) (omega arith) (omega arith) (λ o. omega arith)
+        at-bit mode (before ++ (b ∷ bits)) (suc p) (omega arith) (omega arith) (λ o. omega arith)
         ∙ getD-at before b bits false ((suc p - 28) / 2) (omega arith)
 
-    again : positionsFrom (hasTransition slow (before ++ (b ∷ bits))) (suc (suc p)) (span bits)
-        ≡ positionsFrom (hasTransition slow (before ++ (b ∷ []) ++ bits)) (p + 2) (span bits)
+    again : positionsFrom (hasTransition mode (before ++ (b ∷ bits))) (suc (suc p)) (span bits)
+        ≡ positionsFrom (hasTransition mode (before ++ (b ∷ []) ++ bits)) (p + 2) (span bits)
     again =
-        ap₂ (λ (s : List Bool) (q : ℕ). positionsFrom (hasTransition slow s) q (span bits)) (sym (append-assoc before (b ∷ []) bits)) (omega arith)
+        ap₂ (λ (s : List Bool) (q : ℕ). positionsFrom (hasTransition mode s) q (span bits)) (sym (append-assoc before (b ∷ []) bits)) (omega arith)
 
     by : (c : Bool) (rest : List ℕ) → rest ≡ (p + 2) ∷ afterClock (p + 2) bits → cond c (suc p ∷ rest) rest ≡ afterClock p (c ∷ bits)
     by true rest h = ap₂ (λ (q : ℕ) (r : List ℕ). q ∷ r) (omega arith) h
     by false rest h = h
 
 -- The delimiter's transitions are its positions.
-delimiter-positions : (slow : Bool) (bits : List Bool) → positionsTo (hasTransition slow bits) 26 ≡ cond slow lsmDelimiter hsmDelimiter
-unfolding positionsTo hasTransition
-delimiter-positions true bits = refl
-delimiter-positions false bits = refl
+delimiter-positions : (mode : LineMode) (bits : List Bool) → positionsTo (hasTransition mode bits) 26 ≡ delimiterOf mode
+unfolding positionsTo hasTransition standsAt
+delimiter-positions mode bits =
+    by-delimiter (λ n. positionsTo (hasTransition n bits) 26 ≡ delimiterOf n) (λ s t q. refl) (λ s t q. refl) mode
 
 -- Its gaps, in front of others.
-delimiter-gaps : (slow : Bool) (later : List ℕ)
-    → gaps _-_ (cond slow lsmDelimiter hsmDelimiter ++ (27 ∷ later)) ≡ delimiterGaps slow ++ gapsAfter _-_ 27 later
-delimiter-gaps true later = refl
-delimiter-gaps false later = refl
+delimiter-gaps : (mode : LineMode) (later : List ℕ)
+    → gaps _-_ (delimiterOf mode ++ (27 ∷ later)) ≡ delimiterGaps mode ++ gapsAfter _-_ 27 later
+delimiter-gaps mode later =
+    by-delimiter (λ n. gaps _-_ (delimiterOf n ++ (27 ∷ later)) ≡ delimiterGaps n ++ gapsAfter _-_ 27 later) (λ s t q. refl) (λ s t q. refl) mode
 
 -- A page's transitions, from the first on: the delimiter's, the clock at 27, and what follows it by the bits.
-bits-positions : (slow : Bool) (bits : List Bool) → length bits ≡ 64
-    → positionsTo (hasTransition slow bits) 157 ≡ cond slow lsmDelimiter hsmDelimiter ++ (27 ∷ afterClock 27 bits)
-bits-positions slow bits h =
-    up-to (hasTransition slow bits) 26 131
-    ∙ ap₂ _++_ (delimiter-positions slow bits)
-    (ap (positionsFrom (hasTransition slow bits) 27) (let s = span-length bits in let e : 131 ≡ span bits = omega arith in e)
-    ∙ from-clock slow [] bits 27 (omega arith) refl)
+bits-positions : (mode : LineMode) (bits : List Bool) → length bits ≡ 64
+    → positionsTo (hasTransition mode bits) 157 ≡ delimiterOf mode ++ (27 ∷ afterClock 27 bits)
+bits-positions mode bits h =
+    up-to (hasTransition mode bits) 26 131
+    ∙ ap₂ _++_ (delimiter-positions mode bits)
+    (ap (positionsFrom (hasTransition mode bits) 27) (let s = span-length bits in let e : 131 ≡ span bits = omega arith in e)
+    ∙ from-clock mode [] bits 27 (omega arith) refl)
 
 -- So are those of the page of a word,
-pub transitions-listed : (slow : Bool) (w : ℕ) → transitions slow w ≡ cond slow lsmDelimiter hsmDelimiter ++ (27 ∷ afterClock 27 (sentBits w))
+pub transitions-listed : (mode : LineMode) (w : ℕ) → transitions mode w ≡ delimiterOf mode ++ (27 ∷ afterClock 27 (sentBits w))
 unfolding transitions
-transitions-listed slow w = bits-positions slow (sentBits w) (sent-length w)
+transitions-listed mode w = bits-positions mode (sentBits w) (sent-length w)
 
 -- and their gaps are the page's.
-pub transition-gaps : (slow : Bool) (w : ℕ) → gaps _-_ (transitions slow w) ≡ gapsOf slow (sentBits w)
-transition-gaps slow w =
-    ap (gaps _-_) (transitions-listed slow w)
-    ∙ delimiter-gaps slow (afterClock 27 (sentBits w))
-    ∙ ap (λ (l : List ℕ). delimiterGaps slow ++ l) (after-clock-gaps 27 (sentBits w))
+pub transition-gaps : (mode : LineMode) (w : ℕ) → gaps _-_ (transitions mode w) ≡ gapsOf mode (sentBits w)
+transition-gaps mode w =
+    ap (gaps _-_) (transitions-listed mode w)
+    ∙ delimiter-gaps mode (afterClock 27 (sentBits w))
+    ∙ ap (λ (l : List ℕ). delimiterGaps mode ++ l) (after-clock-gaps 27 (sentBits w))

@@ -1,31 +1,34 @@
--- Whatever edges came before: where a reader that was fresh once says a page, the edges since the one that opened the attempt were sent for it.
--- Edge by edge, a reader either holds no attempt, or the edges since it opened one were all answered nothing.
+-- Whatever edges came before: where a reader that was fresh once hears a page, the edges since the one that opened the attempt carry it.
+-- Edge by edge, a reader either holds no attempt, or the edges since it opened one were all answered Nothing.
 use mathlib.Core.Path.{_≡_, refl, sym, ap, ap₂, _∙_, subst}
 use mathlib.Core.Bool.{Bool, true, false}
 use mathlib.Core.List.{List, [], _∷_, _++_, append-assoc, append-nil}
-use Prim.Native.Nat.{ℕ}
+use Prim.Native.Nat.{ℕ, _+_}
 use native.Mathlib.Omega.{arith}
 use lib.Dec.{leb}
 use lib.ListN.{length, replicate, length-append, replicate-append-replicate}
-use Rattle.answers.specs.Answers.{Said, nothing, pageRead}
 use Rattle.line_mode.specs.declared.modes.LineMode.{LineMode}
 use Rattle.line_mode.specs.declared.modes.Judgement.{Judgement}
 use Rattle.line_mode.specs.declared.modes.Judgement.the-variants.{Positions, Quiet, Unfit}
+use Rattle.line_reader.specs.declared.endings.Ending.the-variants.{Good}
+use Rattle.line_reader.specs.declared.endings.Heard.{Heard}
+use Rattle.line_reader.specs.declared.endings.Heard.the-variants.{Nothing, Ended}
+use Rattle.line_reader.specs.declared.reader.Step.{Step}
 use Rattle.line_reader.specs.declared.reader.Reader.{Reader}
 use Rattle.line_reader.specs.declared.reader.Reader.the-variants.{Fresh, Open, Dropping}
 use Rattle.line_mode.specs.Clock.{timeBetween}
 use Rattle.line_mode.specs.Gaps.{judgementOf}
-use Rattle.line_reader.specs.Reading.{Brings, dropsOn, edgeOf, saidAlong, readerAfter}
+use Rattle.line_reader.specs.Reading.{dropsOn, goesOn, edgeOf, heardAlong, readerAfter}
 use Rattle.line_captures.specs.Captures.{isOpen}
-use Rattle.line_captures.proofs.EdgeRuns.{WasSent}
+use Rattle.line_captures.specs.ReadingBack.{opensAfter, EndsWith}
 use Rattle.line_captures.proofs.JudgedGaps.{judged-quiet}
-use Rattle.line_captures.proofs.OnlyPages.{Edge, cut, wrong, passing, ending, edge-cases, only-sent}
-use Rattle.line_captures.proofs.ReadCaptures.{shut-says}
+use Rattle.line_captures.proofs.OnlyPages.{Edge, cut, wrong, passing, ending, edge-cases, only-carried}
+use Rattle.line_captures.proofs.ReadCaptures.{shut-silent}
 
 -- Edges, and then more.
-said-append : (m : LineMode) (r : Reader) (a b : List ℕ) → saidAlong m r (a ++ b) ≡ saidAlong m r a ++ saidAlong m (readerAfter m r a) b
-said-append m r [] b = refl
-said-append m r (x ∷ a) b = ap (λ (l : List Said). edgeOf m r x .says ∷ l) (said-append m (edgeOf m r x .reader) a b)
+heard-append : (m : LineMode) (r : Reader) (a b : List ℕ) → heardAlong m r (a ++ b) ≡ heardAlong m r a ++ heardAlong m (readerAfter m r a) b
+heard-append m r [] b = refl
+heard-append m r (x ∷ a) b = ap (λ (l : List Heard). edgeOf m r x .heard ∷ l) (heard-append m (edgeOf m r x .reader) a b)
 
 pub after-append : (m : LineMode) (r : Reader) (a b : List ℕ) → readerAfter m r (a ++ b) ≡ readerAfter m (readerAfter m r a) b
 after-append m r [] b = refl
@@ -41,7 +44,7 @@ startsAt m (Dropping last) x = leb (m .quiet) (timeBetween x last)
 data Turn (m : LineMode) (r : Reader) (x : ℕ) : Type 0 where
   opens : startsAt m r x ≡ true → edgeOf m r x .reader ≡ Open 1 x 0 → Turn m r x
   shuts : isOpen (edgeOf m r x .reader) ≡ false → Turn m r x
-  goes : isOpen r ≡ true → edgeOf m r x .says ≡ nothing → Turn m r x
+  goes : isOpen r ≡ true → edgeOf m r x .heard ≡ Nothing → Turn m r x
 
 -- Each edge does one of these.
 turn : (m : LineMode) (r : Reader) (x : ℕ) → Turn m r x
@@ -53,15 +56,15 @@ turn m (Dropping last) x = by (judgementOf m (timeBetween x last)) refl
     by Quiet e = opens (judged-quiet m (timeBetween x last) e) (rw e)
     by Unfit e = shuts (rw e)
     by (Positions k) e = shuts (rw e)
-turn m (Open at last bits) x = by (edge-cases (m .slow) at bits x (judgementOf m (timeBetween x last)))
+turn m (Open at last bits) x = by (edge-cases m at bits x (judgementOf m (timeBetween x last)))
   where
-    by : Edge (m .slow) at bits x (judgementOf m (timeBetween x last)) → Turn m (Open at last bits) x
-    by (cut q e) = opens (judged-quiet m (timeBetween x last) q) (ap (λ (b : Brings). b .reader) e)
-    by (wrong n l u e) = shuts (ap (λ (b : Brings). isOpen (b .reader)) e)
-    by (passing k j a e) = goes refl (ap (λ (b : Brings). b .says) e)
-    by (ending k j a end g e) = shuts (ap (λ (b : Brings). isOpen (b .reader)) e)
+    by : Edge m at bits x (judgementOf m (timeBetween x last)) → Turn m (Open at last bits) x
+    by (cut q e) = opens (judged-quiet m (timeBetween x last) q) (ap (λ (b : Step). b .reader) e)
+    by (wrong other no-page e) = shuts (ap (λ (b : Step). isOpen (b .reader)) e)
+    by (passing k j a e) = goes refl (ap (λ (b : Step). b .heard) e)
+    by (ending k j a end g e) = shuts (ap (λ (b : Step). isOpen (b .reader)) e)
 
--- The edge that opened an attempt, the first of all or after quiet, and those since, all answered nothing.
+-- The edge that opened an attempt, the first of all or after quiet, and those since, all answered Nothing.
 pub record Opened (m : LineMode) (past : List ℕ) : Type 0 where
   pub before : List ℕ
   pub first : ℕ
@@ -69,7 +72,7 @@ pub record Opened (m : LineMode) (past : List ℕ) : Type 0 where
   pub whole : past ≡ before ++ (first ∷ since)
   pub starts : startsAt m (readerAfter m Fresh before) first ≡ true
   pub opened : readerAfter m Fresh (before ++ (first ∷ [])) ≡ Open 1 first 0
-  pub silent : saidAlong m (Open 1 first 0) since ≡ replicate (length since) nothing
+  pub silent : heardAlong m (Open 1 first 0) since ≡ replicate (length since) Nothing
 
 -- What a reader holds after edges: no attempt, or one.
 data Holds (m : LineMode) (past : List ℕ) : Type 0 where
@@ -99,9 +102,9 @@ holds-more m past x (attempt p) (goes o e) =
       starts = p .starts;
       opened = p .opened;
       silent =
-          said-append m (Open 1 (p .first) 0) (p .since) (x ∷ [])
-          ∙ ap₂ (λ (l : List Said) (s : Said). l ++ (s ∷ [])) (p .silent) (ap (λ (r : Reader). edgeOf m r x .says) (sym (since-opened m past p)) ∙ e)
-          ∙ replicate-append-replicate (length (p .since)) 1 nothing ∙ ap (λ (n : ℕ). replicate n nothing) (sym (length-append (p .since) (x ∷ [])));
+          heard-append m (Open 1 (p .first) 0) (p .since) (x ∷ [])
+          ∙ ap₂ (λ (l : List Heard) (s : Heard). l ++ (s ∷ [])) (p .silent) (ap (λ (r : Reader). edgeOf m r x .heard) (sym (since-opened m past p)) ∙ e)
+          ∙ replicate-append-replicate (length (p .since)) 1 Nothing ∙ ap (λ (n : ℕ). replicate n Nothing) (sym (length-append (p .since) (x ∷ [])));
     })
 
 -- and after any.
@@ -110,21 +113,58 @@ holds-on m past [] h = rw (append-nil past) h
 holds-on m past (x ∷ more) h =
     subst (Holds m) (append-assoc past (x ∷ []) more) (holds-on m (past ++ (x ∷ [])) more (holds-more m past x h (turn m (readerAfter m Fresh past) x)))
 
--- A page said after any edges: the edges since the one that opened the attempt, and this one, were sent for its word.
-pub record SaidPage (m : LineMode) (past : List ℕ) (x w : ℕ) : Type 0 where
-  pub attempt : Opened m past
-  pub sent : WasSent m w (attempt .first ∷ (attempt .since ++ (x ∷ [])))
+-- A reader whose last edge was at x.
+pub data LastAt (x : ℕ) : Reader → Type 0 where
+  held : (at bits : ℕ) → LastAt x (Open at x bits)
+  dropped : LastAt x (Dropping x)
 
-pub page-said : (m : LineMode) (past : List ℕ) (x w : ℕ) → edgeOf m (readerAfter m Fresh past) x .says ≡ pageRead w → SaidPage m past x w
-page-said m past x w h = by (holds-on m [] past (none refl))
+-- So it is after an edge at x.
+pub last-at : (m : LineMode) (r : Reader) (x : ℕ) → LastAt x (edgeOf m r x .reader)
+unfolding edgeOf dropsOn
+last-at m Fresh x = held 1 0
+last-at m (Dropping last) x = by (judgementOf m (timeBetween x last))
   where
-    by : Holds m past → SaidPage m past x w
-    by (none n) = absurd (let e = ap (λ (s : Said). s .kind) (sym (shut-says m (readerAfter m Fresh past) x n) ∙ h) in omega arith)
+    by : (j : Judgement) → LastAt x (dropsOn x j .reader)
+    by Quiet = held 1 0
+    by Unfit = dropped
+    by (Positions k) = dropped
+last-at m (Open at last bits) x = by (edge-cases m at bits x (judgementOf m (timeBetween x last)))
+  where
+    by : Edge m at bits x (judgementOf m (timeBetween x last)) → LastAt x (goesOn m at bits x (judgementOf m (timeBetween x last)) .reader)
+    by (cut q e) = rw e (held 1 0)
+    by (wrong other no-page e) = rw e dropped
+    by (passing k j a e) = rw e (held (at + k) _)
+    by (ending k j a end g e) = rw e dropped
+
+-- What tells where an attempt may open is the last edge before.
+opens-after : (m : LineMode) (r : Reader) (y x : ℕ) (before : List ℕ) → startsAt m (readerAfter m r (y ∷ before)) x ≡ opensAfter m (y ∷ before) x
+opens-after m r y x [] = by (edgeOf m r y .reader) (last-at m r y)
+  where
+    by : (s : Reader) → LastAt y s → startsAt m s x ≡ leb (m .quiet) (timeBetween x y)
+    by s (held at bits) = refl
+    by s dropped = refl
+opens-after m r y x (z ∷ before) = opens-after m (edgeOf m r y .reader) z x before
+
+starts-opens : (m : LineMode) (before : List ℕ) (x : ℕ) → startsAt m (readerAfter m Fresh before) x ≡ true → opensAfter m before x ≡ true
+starts-opens m [] x h = refl
+starts-opens m (y ∷ before) x h = sym (opens-after m Fresh y x before) ∙ h
+
+-- A page heard after any edges: the edges since the one that opened the attempt, and this one, carry its word.
+pub page-heard : (m : LineMode) (past : List ℕ) (x w : ℕ) → edgeOf m (readerAfter m Fresh past) x .heard ≡ Ended (Good w) → EndsWith m w (past ++ (x ∷ []))
+page-heard m past x w h = by (holds-on m [] past (none refl))
+  where
+    by : Holds m past → EndsWith m w (past ++ (x ∷ []))
+    by (none n) = absurd (let e = shut-silent m (readerAfter m Fresh past) x n in let z : _≡_ {A = ℕ} 0 1 = cc in omega arith)
     by (attempt o) =
+        let c = only-carried m (length (o .since)) w (o .first) (o .since ++ (x ∷ []))
+        (heard-append m (Open 1 (o .first) 0) (o .since) (x ∷ [])
+        ∙ ap₂ (λ (l : List Heard) (s : Heard). l ++ (s ∷ [])) (o .silent) (ap (λ (r : Reader). edgeOf m r x .heard) (sym (since-opened m past o)) ∙ h)) in
         record {
-          attempt = o;
-          sent =
-              only-sent m (length (o .since)) w (o .first) (o .since ++ (x ∷ []))
-              (said-append m (Open 1 (o .first) 0) (o .since) (x ∷ [])
-              ∙ ap₂ (λ (l : List Said) (s : Said). l ++ (s ∷ [])) (o .silent) (ap (λ (r : Reader). edgeOf m r x .says) (sym (since-opened m past o)) ∙ h));
+          before = o .before;
+          first = o .first;
+          later = o .since ++ (x ∷ []);
+          whole = ap (λ (l : List ℕ). l ++ (x ∷ [])) (o .whole) ∙ append-assoc (o .before) (o .first ∷ o .since) (x ∷ []);
+          opened = starts-opens m (o .before) (o .first) (o .starts);
+          word = c .word;
+          carried = c .carried;
         }

@@ -1,5 +1,5 @@
 -- Reading from next place to next place meets every attempt once, in order, and ends.
--- What one reader says along a whole capture, with a Cut for an attempt that is open at its end, is the first attempt's outcome and then the
+-- What one reader tells along a whole capture, with a Cut for an attempt that is open at its end, is the first attempt's ending and then the
 -- same for what stands from the next place on: the edge that opens an attempt leaves any reader as a fresh one takes it.
 use mathlib.Core.Path.{_≡_, refl, sym, ap, _∙_}
 use mathlib.Core.Bool.{Bool, true, false, cond}
@@ -10,122 +10,123 @@ use native.Mathlib.Omega.{arith}
 use lib.Dec.{eqb, ltb}
 use lib.ListN.{length, drop, length-drop, drop-of-length-le}
 use lib.Seq.{drop-nil, drop-drop}
-use borrow.Author.Tests.{ltb-true, ltb-false, le-ltb, ne-eqb}
-use Rattle.answers.specs.Answers.{Said, nothing, refused, pageRead, spoken}
-use Rattle.answers.specs.declared.Refusal.the-variants.{Gap, Cut, Check}
+use borrow.Author.Tests.{ltb-true, ltb-false, lt-ltb, le-ltb, eqb-true, eqb-false, ne-eqb}
 use Rattle.page_check_bits.specs.CheckBits.{agrees}
 use Rattle.line_mode.specs.declared.modes.LineMode.{LineMode}
+use Rattle.line_mode.specs.declared.modes.Found.{Found}
+use Rattle.line_mode.specs.declared.modes.Found.the-variants.{Known, Unknown}
 use Rattle.line_mode.specs.declared.modes.Judgement.{Judgement}
 use Rattle.line_mode.specs.declared.modes.Judgement.the-variants.{Positions, Quiet, Unfit}
+use Rattle.line_reader.specs.declared.endings.Ending.{Ending}
+use Rattle.line_reader.specs.declared.endings.Ending.the-variants.{Good, Gap, Cut, Check}
+use Rattle.line_reader.specs.declared.endings.Heard.the-variants.{Nothing, Ended}
+use Rattle.line_reader.specs.declared.reader.Step.{Step}
 use Rattle.line_reader.specs.declared.reader.Reader.{Reader}
 use Rattle.line_reader.specs.declared.reader.Reader.the-variants.{Fresh, Open, Dropping}
 use Rattle.line_mode.specs.Clock.{timeBetween}
 use Rattle.line_mode.specs.Gaps.{judgementOf}
+use Rattle.line_mode.specs.Modes.{modeOf}
 use Rattle.line_reader.specs.Pattern.{asks}
-use Rattle.line_reader.specs.Reading.{Brings, bring, withBit, arrives, goesOn, dropsOn, edgeOf, saidAlong, readerAfter}
-use Rattle.line_captures.specs.Captures.{Attempt, atTheEnd, opensAt, attemptOf, readIn}
+use Rattle.line_reader.specs.Reading.{step, withBit, arrives, goesOn, dropsOn, edgeOf, heardAlong, readerAfter}
+use Rattle.line_captures.specs.declared.captures.ReadOutcome.{ReadOutcome}
+use Rattle.line_captures.specs.declared.captures.ReadOutcome.the-variants.{PastTheEnd, AtTheEnd, Attempt}
+use Rattle.line_captures.specs.Captures.{opensAt, attemptOf, readIn, readBy, readOf, onwards, attemptsFrom}
+use Rattle.line_captures.specs.ReadingBack.{endings, endsOpen}
 
--- Every attempt of a list of edges that a reader takes, as it tells them edge by edge.
-abbrev pub toldBy : LineMode → Reader → List ℕ → List Said
-toldBy m r edges = spoken (saidAlong m r edges) ++ atTheEnd (readerAfter m r edges)
-
-abbrev pub toldFresh : LineMode → List ℕ → List Said
-toldFresh m edges = toldBy m Fresh edges
+-- How every attempt of a list of edges ends that a reader takes, as it tells them edge by edge.
+abbrev pub toldBy : LineMode → Reader → List ℕ → List Ending
+toldBy m r edges = endings (heardAlong m r edges) ++ endsOpen (readerAfter m r edges)
 
 -- What an edge brings to an open attempt: it goes on; or it is cut and the edge opens the next; or it ends and edges are dropped.
-data Turns (x : ℕ) : Brings → Type 0 where
-  on : (at bits : ℕ) → Turns x (bring nothing (Open at x bits))
-  cut : Turns x (bring (refused Cut) (Open 1 x 0))
-  over : (s : Said) → eqb (s .kind) 0 ≡ false → Turns x (bring s (Dropping x))
+data Turns (x : ℕ) : Step → Type 0 where
+  on : (at bits : ℕ) → Turns x (step Nothing (Open at x bits))
+  cut : Turns x (step (Ended Cut) (Open 1 x 0))
+  over : (ending : Ending) → Turns x (step (Ended ending) (Dropping x))
 
 arrived : (at bits x : ℕ) → Turns x (arrives at bits x)
 unfolding arrives
 arrived at bits x = by (eqb at 157) (agrees bits)
   where
-    by : (t g : Bool) → Turns x (cond t (bring (cond g (pageRead (bits % 2 ^ 48)) (refused Check)) (Dropping x)) (bring nothing (Open at x bits)))
+    by : (t g : Bool) → Turns x (cond t (step (Ended (cond g (Good (bits % 2 ^ 48)) Check)) (Dropping x)) (step Nothing (Open at x bits)))
     by false g = on at bits
-    by true true = over (pageRead (bits % 2 ^ 48)) refl
-    by true false = over (refused Check) refl
+    by true g = over (cond g (Good (bits % 2 ^ 48)) Check)
 
-turns : (slow : Bool) (at bits x : ℕ) (j : Judgement) → Turns x (goesOn slow at bits x j)
+turns : (mode : LineMode) (at bits x : ℕ) (j : Judgement) → Turns x (goesOn mode at bits x j)
 unfolding goesOn
-turns slow at bits x Quiet = cut
-turns slow at bits x Unfit = over (refused Gap) refl
-turns slow at bits x (Positions k) = by (asks slow at k)
+turns mode at bits x Quiet = cut
+turns mode at bits x Unfit = over Gap
+turns mode at bits x (Positions k) = by (asks mode at k)
   where
-    by : (t : Bool) → Turns x (cond t (arrives (at + k) (withBit at k bits) x) (bring (refused Gap) (Dropping x)))
+    by : (t : Bool) → Turns x (cond t (arrives (at + k) (withBit at k bits) x) (step (Ended Gap) (Dropping x)))
     by true = arrived (at + k) (withBit at k bits) x
-    by false = over (refused Gap) refl
+    by false = over Gap
 
 -- From `at` on a reader's edges tell what stands before, and then what a fresh reader tells from the place `next` on.
-pub record Goes (m : LineMode) (r : Reader) (edges : List ℕ) (at next : ℕ) (before : List Said) : Type 0 where
+pub record Goes (m : LineMode) (r : Reader) (edges : List ℕ) (at next : ℕ) (before : List Ending) : Type 0 where
   pub least : at ≤ next
   pub most : next ≤ at + length edges
   pub told : toldBy m r edges ≡ before ++ toldBy m Fresh (drop (next - at) edges)
 
 -- What is told along edges of which the first brings this.
-abbrev tells : LineMode → Brings → List ℕ → List Said
-tells m b rest = spoken (b .says ∷ saidAlong m (b .reader) rest) ++ atTheEnd (readerAfter m (b .reader) rest)
+abbrev tells : LineMode → Step → List ℕ → List Ending
+tells m b rest = endings (b .heard ∷ heardAlong m (b .reader) rest) ++ endsOpen (readerAfter m (b .reader) rest)
 
 drop-later : (x : ℕ) (rest : List ℕ) (at next : ℕ) → at + 1 ≤ next → drop (next - (at + 1)) rest ≡ drop (next - at) (x ∷ rest)
 drop-later x rest at next h = ap (λ (n : ℕ). drop n (x ∷ rest)) (let e : suc (next - (at + 1)) ≡ next - at = omega arith in e)
 
 module _ (m : LineMode) (r : Reader) (x : ℕ) (rest : List ℕ) (at next : ℕ) where
   -- An edge at which nothing is said,
-  silent-edge : (r′ : Reader) (before : List Said) → edgeOf m r x ≡ bring nothing r′ → Goes m r′ rest (at + 1) next before
+  silent-edge : (r′ : Reader) (before : List Ending) → edgeOf m r x ≡ step Nothing r′ → Goes m r′ rest (at + 1) next before
       → Goes m r (x ∷ rest) at next before
   silent-edge r′ before e g =
       record {
         least = let l = g .least in omega arith;
         most = let l = g .most in omega arith;
         told =
-            ap (λ (b : Brings). tells m b rest) e ∙ g .told
+            ap (λ (b : Step). tells m b rest) e ∙ g .told
             ∙ ap (λ (l : List ℕ). before ++ toldBy m Fresh l) (drop-later x rest at next (g .least));
       }
 
   -- and one that ends an attempt.
-  ending-edge : (s : Said) (r′ : Reader) → eqb (s .kind) 0 ≡ false → edgeOf m r x ≡ bring s r′ → Goes m r′ rest (at + 1) next []
-      → Goes m r (x ∷ rest) at next (s ∷ [])
-  ending-edge s r′ k e g =
+  ending-edge : (ending : Ending) (r′ : Reader) → edgeOf m r x ≡ step (Ended ending) r′ → Goes m r′ rest (at + 1) next []
+      → Goes m r (x ∷ rest) at next (ending ∷ [])
+  ending-edge ending r′ e g =
       record {
         least = let l = g .least in omega arith;
         most = let l = g .most in omega arith;
         told =
-            ap (λ (b : Brings). tells m b rest) e ∙ spoken-first
-            ∙ ap (λ (l : List Said). s ∷ l) (g .told)
-            ∙ ap (λ (l : List ℕ). s ∷ toldBy m Fresh l) (drop-later x rest at next (g .least));
+            ap (λ (b : Step). tells m b rest) e
+            ∙ ap (λ (l : List Ending). ending ∷ l) (g .told)
+            ∙ ap (λ (l : List ℕ). ending ∷ toldBy m Fresh l) (drop-later x rest at next (g .least));
       }
-    where
-      spoken-first : tells m (bring s r′) rest ≡ s ∷ toldBy m r′ rest
-      spoken-first = rw k
 
 -- The edge that opens an attempt is as the first edge of a fresh reader.
-opening-edge : (m : LineMode) (r : Reader) (x : ℕ) (rest : List ℕ) (at : ℕ) → edgeOf m r x ≡ bring nothing (Open 1 x 0) → Goes m r (x ∷ rest) at at []
+opening-edge : (m : LineMode) (r : Reader) (x : ℕ) (rest : List ℕ) (at : ℕ) → edgeOf m r x ≡ step Nothing (Open 1 x 0) → Goes m r (x ∷ rest) at at []
 unfolding edgeOf
 opening-edge m r x rest at e =
     record {
       least = le-refl at;
       most = omega arith;
       told =
-          ap (λ (b : Brings). tells m b rest) e
+          ap (λ (b : Step). tells m b rest) e
           ∙ ap (λ (n : ℕ). toldBy m Fresh (drop n (x ∷ rest))) (let z : 0 ≡ at - at = omega arith in z);
     }
 
-cutting-edge : (m : LineMode) (r : Reader) (x : ℕ) (rest : List ℕ) (at : ℕ) → edgeOf m r x ≡ bring (refused Cut) (Open 1 x 0) → Goes m r (x ∷ rest) at at (refused Cut ∷ [])
+cutting-edge : (m : LineMode) (r : Reader) (x : ℕ) (rest : List ℕ) (at : ℕ) → edgeOf m r x ≡ step (Ended Cut) (Open 1 x 0) → Goes m r (x ∷ rest) at at (Cut ∷ [])
 unfolding edgeOf
 cutting-edge m r x rest at e =
     record {
       least = le-refl at;
       most = omega arith;
       told =
-          ap (λ (b : Brings). tells m b rest) e
-          ∙ ap (λ (n : ℕ). refused Cut ∷ toldBy m Fresh (drop n (x ∷ rest))) (let z : 0 ≡ at - at = omega arith in z);
+          ap (λ (b : Step). tells m b rest) e
+          ∙ ap (λ (n : ℕ). Cut ∷ toldBy m Fresh (drop n (x ∷ rest))) (let z : 0 ≡ at - at = omega arith in z);
     }
 
 -- What an edge brings while edges are dropped.
-data Drops (x : ℕ) : Brings → Type 0 where
-  stays : Drops x (bring nothing (Dropping x))
-  opens : Drops x (bring nothing (Open 1 x 0))
+data Drops (x : ℕ) : Step → Type 0 where
+  stays : Drops x (step Nothing (Dropping x))
+  opens : Drops x (step Nothing (Open 1 x 0))
 
 drops : (x : ℕ) (j : Judgement) → Drops x (dropsOn x j)
 unfolding dropsOn
@@ -139,63 +140,89 @@ unfolding opensAt
 dropping m z [] at = record { least = le-refl at; most = omega arith; told = sym (ap (toldBy m Fresh) (drop-nil (at - at))) }
 dropping m z (x ∷ rest) at = by (dropping m x rest (at + 1)) (edgeOf m (Dropping z) x) refl (unfold edgeOf in drops x (judgementOf m (timeBetween x z)))
   where
-    by : Goes m (Dropping x) rest (at + 1) (opensAt m (Dropping x) rest (at + 1)) [] → (b : Brings) → edgeOf m (Dropping z) x ≡ b → Drops x b
+    by : Goes m (Dropping x) rest (at + 1) (opensAt m (Dropping x) rest (at + 1)) [] → (b : Step) → edgeOf m (Dropping z) x ≡ b → Drops x b
         → Goes m (Dropping z) (x ∷ rest) at (opensAt m (Dropping z) (x ∷ rest) at) []
     by ih b e stays = rw e (silent-edge m (Dropping z) x rest at (opensAt m (Dropping x) rest (at + 1)) (Dropping x) [] e ih)
     by ih b e opens = rw e (opening-edge m (Dropping z) x rest at e)
 
--- An open attempt leads to its end and to the place where the next one opens.
-attempting : (m : LineMode) (p y b : ℕ) (edges : List ℕ) (at : ℕ)
-    → Goes m (Open p y b) edges at (attemptOf m (Open p y b) edges at .next) (attemptOf m (Open p y b) edges at .says ∷ [])
-unfolding attemptOf
+-- Edges that lead to the ending of an attempt, and to the place where the next one opens: as this outcome has them.
+record Leads (m : LineMode) (r : Reader) (edges : List ℕ) (at : ℕ) (outcome : ReadOutcome) : Type 0 where
+  ending : Ending
+  next : ℕ
+  told : outcome ≡ Attempt ending next
+  goes : Goes m r edges at next (ending ∷ [])
+
+-- So do those of an open attempt,
+attempting : (m : LineMode) (p y b : ℕ) (edges : List ℕ) (at : ℕ) → Leads m (Open p y b) edges at (attemptOf m (Open p y b) edges at)
+unfolding attemptOf opensAt
 attempting m p y b [] at =
-    record { least = le-refl at; most = omega arith; told = sym (ap (λ (l : List ℕ). refused Cut ∷ toldBy m Fresh l) (drop-nil (at - at))) }
+    record {
+      ending = Cut;
+      next = at;
+      told = refl;
+      goes = record { least = le-refl at; most = omega arith; told = sym (ap (λ (l : List ℕ). Cut ∷ toldBy m Fresh l) (drop-nil (at - at))) };
+    }
 attempting m p y b (x ∷ rest) at =
     by (λ p′ y′ b′. attempting m p′ y′ b′ rest (at + 1)) (edgeOf m (Open p y b) x) refl
-    (unfold edgeOf in turns (m .slow) p b x (judgementOf m (timeBetween x y)))
+    (unfold edgeOf in turns m p b x (judgementOf m (timeBetween x y)))
   where
-    by : ((p′ y′ b′ : ℕ) → Goes m (Open p′ y′ b′) rest (at + 1) (attemptOf m (Open p′ y′ b′) rest (at + 1) .next) (attemptOf m (Open p′ y′ b′) rest (at + 1) .says ∷ []))
-        → (brought : Brings) → edgeOf m (Open p y b) x ≡ brought → Turns x brought
-        → Goes m (Open p y b) (x ∷ rest) at (attemptOf m (Open p y b) (x ∷ rest) at .next) (attemptOf m (Open p y b) (x ∷ rest) at .says ∷ [])
-    by ih brought e (on p′ b′) = rw e (silent-edge m (Open p y b) x rest at (attemptOf m (Open p′ x b′) rest (at + 1) .next) (Open p′ x b′) (attemptOf m (Open p′ x b′) rest (at + 1) .says ∷ []) e (ih p′ x b′))
-    by ih brought e cut = rw e (cutting-edge m (Open p y b) x rest at e)
-    by ih brought e (over s k) = rw (e, k) (ending-edge m (Open p y b) x rest at (opensAt m (Dropping x) rest (at + 1)) s (Dropping x) k e (dropping m x rest (at + 1)))
+    by : ((p′ y′ b′ : ℕ) → Leads m (Open p′ y′ b′) rest (at + 1) (attemptOf m (Open p′ y′ b′) rest (at + 1)))
+        → (brought : Step) → edgeOf m (Open p y b) x ≡ brought → Turns x brought → Leads m (Open p y b) (x ∷ rest) at (attemptOf m (Open p y b) (x ∷ rest) at)
+    by ih brought e (on p′ b′) =
+        let l = ih p′ x b′ in
+        record {
+          ending = l .ending;
+          next = l .next;
+          told = rw e (l .told);
+          goes = silent-edge m (Open p y b) x rest at (l .next) (Open p′ x b′) (l .ending ∷ []) e (l .goes);
+        }
+    by ih brought e cut = record { ending = Cut; next = at; told = rw e; goes = cutting-edge m (Open p y b) x rest at e }
+    by ih brought e (over ending) =
+        record {
+          ending = ending;
+          next = opensAt m (Dropping x) rest (at + 1);
+          told = rw e;
+          goes = ending-edge m (Open p y b) x rest at (opensAt m (Dropping x) rest (at + 1)) ending (Dropping x) e (dropping m x rest (at + 1));
+        }
 
--- From a fresh reader on.
-from-fresh : (m : LineMode) (x : ℕ) (rest : List ℕ) (at : ℕ)
-    → Goes m Fresh (x ∷ rest) at (attemptOf m Fresh (x ∷ rest) at .next) (attemptOf m Fresh (x ∷ rest) at .says ∷ [])
-unfolding attemptOf edgeOf
-from-fresh m x rest at =
-    silent-edge m Fresh x rest at (attemptOf m (Open 1 x 0) rest (at + 1) .next) (Open 1 x 0) (attemptOf m (Open 1 x 0) rest (at + 1) .says ∷ []) refl
-    (attempting m 1 x 0 rest (at + 1))
-
-fresh-later : (m : LineMode) (x : ℕ) (rest : List ℕ) (at : ℕ) → at < attemptOf m Fresh (x ∷ rest) at .next
-unfolding attemptOf edgeOf
-fresh-later m x rest at = let l = attempting m 1 x 0 rest (at + 1) .least in omega arith
+-- An attempt that goes forward in the capture and stays in it.
+pub record GoesForward (outcome : ReadOutcome) (capture : List ℕ) (place : ℕ) : Type 0 where
+  pub ending : Ending
+  pub next : ℕ
+  pub told : outcome ≡ Attempt ending next
+  pub forward : place < next
+  pub inside : next ≤ length capture
 
 -- One read call of the walk: it goes forward, stays in the capture, and tells the next of the capture's attempts.
-pub record WalkStep (m : LineMode) (capture : List ℕ) (place : ℕ) (attempt : Attempt) : Type 0 where
-  pub forward : place < attempt .next
-  pub inside : attempt .next ≤ length capture
-  pub told : toldBy m Fresh (drop place capture) ≡ attempt .says ∷ toldBy m Fresh (drop (attempt .next) capture)
+pub record WalkStep (m : LineMode) (capture : List ℕ) (place : ℕ) (outcome : ReadOutcome) : Type 0 where
+  pub goes : GoesForward outcome capture place
+  pub tells : toldBy m Fresh (drop place capture) ≡ goes .ending ∷ toldBy m Fresh (drop (goes .next) capture)
 
+-- A fresh reader's first edge opens an attempt.
 walk-from : (m : LineMode) (capture : List ℕ) (place : ℕ) → place < length capture → (tail : List ℕ) → drop place capture ≡ tail
     → WalkStep m capture place (attemptOf m Fresh tail place)
+unfolding attemptOf edgeOf
 walk-from m capture place h [] e = absurd (let l = ap length e ∙ refl in omega (arith, length-drop place capture))
 walk-from m capture place h (x ∷ rest) e =
+    let l = attempting m 1 x 0 rest (place + 1) in
+    let g = silent-edge m Fresh x rest place (l .next) (Open 1 x 0) (l .ending ∷ []) refl (l .goes) in
+    let later = l .goes .least in
+    let most = g .most in
     record {
-      forward = fresh-later m x rest place;
-      inside = let l = g .most in omega (arith, length-drop place capture, ap length e);
-      told =
+      goes =
+          record {
+            ending = l .ending;
+            next = l .next;
+            told = l .told;
+            forward = omega arith;
+            inside = omega (arith, length-drop place capture, ap length e);
+          };
+      tells =
           ap (toldBy m Fresh) e ∙ g .told
-          ∙ ap (λ (l : List ℕ). attemptOf m Fresh (x ∷ rest) place .says ∷ toldBy m Fresh l)
-          (ap (drop (attemptOf m Fresh (x ∷ rest) place .next - place)) (sym e)
-          ∙ drop-drop (attemptOf m Fresh (x ∷ rest) place .next - place) place capture
-          ∙ ap (λ (n : ℕ). drop n capture) (let l = g .least in let s : place + (attemptOf m Fresh (x ∷ rest) place .next - place) ≡ attemptOf m Fresh (x ∷ rest) place .next = omega arith in s));
+          ∙ ap (λ (edges : List ℕ). l .ending ∷ toldBy m Fresh edges)
+          (ap (drop (l .next - place)) (sym e) ∙ drop-drop (l .next - place) place capture
+          ∙ ap (λ (n : ℕ). drop n capture) (let s : place + (l .next - place) ≡ l .next = omega arith in s));
     }
-  where
-    g : Goes m Fresh (x ∷ rest) place (attemptOf m Fresh (x ∷ rest) place .next) (attemptOf m Fresh (x ∷ rest) place .says ∷ [])
-    g = from-fresh m x rest place
 
 pub walk-step : (m : LineMode) (capture : List ℕ) (place : ℕ) → place < length capture → WalkStep m capture place (readIn m capture place)
 unfolding readIn
@@ -203,31 +230,64 @@ walk-step m capture place h =
     rw (le-ltb (length capture) place (omega arith), ne-eqb place (length capture) (λ e. omega arith))
     (walk-from m capture place h (drop place capture) refl)
 
--- At the end of a capture nothing is left to tell.
-pub walk-end : (m : LineMode) (capture : List ℕ) (place : ℕ) → length capture ≤ place → toldBy m Fresh (drop place capture) ≡ []
-walk-end m capture place h = ap (toldBy m Fresh) (drop-of-length-le capture h)
+-- The call by a mode's number is that in the mode which it names.
+pub read-known : (mode : ℕ) (m : LineMode) (capture : List ℕ) (place : ℕ) → modeOf mode ≡ Known m → readOf mode capture place ≡ readIn m capture place
+unfolding readOf
+read-known mode m capture place known = ap (λ (f : Found). readBy f capture place) known
 
--- The walk: what is said at each place, from place to next place up to the end, at most so often.
-abbrev pub attemptsBy : (ℕ → Attempt) → ℕ → ℕ → ℕ → List Said
-attemptsBy read end zero place = []
-attemptsBy read end (suc more) place =
-    let attempt = read place in
-    let later = attemptsBy read end more (attempt .next) in cond (ltb place end) (attempt .says ∷ later) []
+-- At the end of a capture, or past it, no attempt is left.
+module _ (m : LineMode) (capture : List ℕ) (place : ℕ) (h : length capture ≤ place) where
+  none-told : toldBy m Fresh (drop place capture) ≡ []
+  none-told = ap (toldBy m Fresh) (drop-of-length-le capture h)
 
--- It tells just the attempts that a reader tells edge by edge along the capture, each once and in order; and as many calls as there are
--- edges left are enough.
-pub attempts-told : (m : LineMode) (capture : List ℕ) (more place : ℕ) → length capture - place ≤ more
-    → attemptsBy (readIn m capture) (length capture) more place ≡ toldBy m Fresh (drop place capture)
-attempts-told m capture zero place h = sym (walk-end m capture place (omega arith))
-attempts-told m capture (suc more) place h = by (attempts-told m capture more) (ltb place (length capture)) refl
+  pub none-read : (from : ℕ → List Ending) → onwards (readIn m capture place) from ≡ []
+  unfolding readIn
+  none-read from = by (ltb (length capture) place) refl (eqb place (length capture)) refl
+    where
+      by : (t : Bool) → ltb (length capture) place ≡ t → (u : Bool) → eqb place (length capture) ≡ u
+          → onwards (cond t PastTheEnd (cond u AtTheEnd (attemptOf m Fresh (drop place capture) place))) from ≡ []
+      by true e u f = refl
+      by false e true f = refl
+      by false e false f = absurd (eqb-false place (length capture) f (let l = ltb-false (length capture) place e in omega arith))
+
+-- So a call that brings an attempt was inside the capture, and goes forward in it.
+pub attempt-forward : (mode : ℕ) (capture : List ℕ) (place : ℕ) (ending : Ending) (next : ℕ) → readOf mode capture place ≡ Attempt ending next
+    → (place < next) × (next ≤ length capture)
+unfolding readOf
+attempt-forward mode capture place ending next h = by (modeOf mode) h
   where
-    by : ((next : ℕ) → length capture - next ≤ more → attemptsBy (readIn m capture) (length capture) more next ≡ toldBy m Fresh (drop next capture))
+    inside : (m : LineMode) → readIn m capture place ≡ Attempt ending next → (t : Bool) → ltb place (length capture) ≡ t → (place < next) × (next ≤ length capture)
+    inside m h true e =
+        let g = walk-step m capture place (ltb-true place (length capture) e) .goes in
+        let same : g .next ≡ next = let told = g .told in cc in
+        let f = g .forward in
+        let i = g .inside in (omega arith, omega arith)
+    inside m h false e =
+        let none = none-read m capture place (ltb-false place (length capture) e) (λ n. []) in
+        absurd (let z : ending ∷ [] ≡ [] = ap (λ (o : ReadOutcome). onwards o (λ n. [])) (sym h) ∙ none in let l = ap length z in omega arith)
+
+    by : (f : Found) → readBy f capture place ≡ Attempt ending next → (place < next) × (next ≤ length capture)
+    by Unknown h = absurd (let z : _≡_ {A = ℕ} 0 1 = cc h in omega arith)
+    by (Known m) h = inside m h (ltb place (length capture)) refl
+
+-- The walk tells just the attempts that a reader tells edge by edge along the capture, each once and in order; and as many calls as there are
+-- edges left are enough.
+pub attempts-told : (mode : ℕ) (m : LineMode) → modeOf mode ≡ Known m → (capture : List ℕ) (more place : ℕ) → length capture ≤ place + more
+    → attemptsFrom more mode capture place ≡ toldBy m Fresh (drop place capture)
+unfolding attemptsFrom
+attempts-told mode m known capture zero place h = sym (none-told m capture place (omega arith))
+attempts-told mode m known capture (suc more) place h =
+    ap (λ (o : ReadOutcome). onwards o (attemptsFrom more mode capture)) (read-known mode m capture place known)
+    ∙ by (attempts-told mode m known capture more) (ltb place (length capture)) refl
+  where
+    by : ((next : ℕ) → length capture ≤ next + more → attemptsFrom more mode capture next ≡ toldBy m Fresh (drop next capture))
         → (t : Bool) → ltb place (length capture) ≡ t
-        → cond t (readIn m capture place .says ∷ attemptsBy (readIn m capture) (length capture) more (readIn m capture place .next)) []
-        ≡ toldBy m Fresh (drop place capture)
+        → onwards (readIn m capture place) (attemptsFrom more mode capture) ≡ toldBy m Fresh (drop place capture)
     by ih true e =
-        let l = ltb-true place (length capture) e in
-        let s = walk-step m capture place l in
-        ap (λ (rest : List Said). readIn m capture place .says ∷ rest) (ih (readIn m capture place .next) (let f = s .forward in omega arith))
-        ∙ sym (s .told)
-    by ih false e = sym (walk-end m capture place (ltb-false place (length capture) e))
+        let s = walk-step m capture place (ltb-true place (length capture) e) in
+        let f = s .goes .forward in
+        ap (λ (o : ReadOutcome). onwards o (attemptsFrom more mode capture)) (s .goes .told)
+        ∙ ap (λ (rest : List Ending). s .goes .ending ∷ rest) (ih (s .goes .next) (omega arith))
+        ∙ sym (s .tells)
+    by ih false e =
+        let l = ltb-false place (length capture) e in none-read m capture place l (attemptsFrom more mode capture) ∙ sym (none-told m capture place l)

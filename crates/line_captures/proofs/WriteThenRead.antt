@@ -14,20 +14,24 @@ use Rattle.page_word.specs.Word.{isWord}
 use Rattle.answers.specs.Answers.{Said, refused, number, pageRead}
 use Rattle.answers.specs.declared.Refusal.the-variants.{Room, Wide}
 use Rattle.line_mode.specs.declared.modes.LineMode.{LineMode}
+use Rattle.line_reader.specs.declared.endings.Ending.the-variants.{Good}
 use Rattle.line_reader.specs.declared.reader.Reader.the-variants.{Fresh, Dropping}
+use Rattle.line_captures.specs.declared.captures.ReadOutcome.the-variants.{Attempt}
 use Rattle.line_mode.specs.declared.modes.Found.the-variants.{Known, Unknown}
 use Rattle.line_mode.specs.Modes.{hsmMode, lsmMode, modeOf, saysBy, leavesBy}
 use Rattle.line_mode.specs.Clock.{timeBetween}
-use Rattle.line_mode.specs.Delimiters.{hsmDelimiter, lsmDelimiter}
+use Rattle.line_page.specs.Pattern.{delimiterOf, hsmDelimiter, lsmDelimiter}
+use Rattle.line_page.proofs.Positions.{by-delimiter}
 use Rattle.line_writer.specs.Transitions.{transitions, sentBits, hasTransition, positionsTo, readingAt, readings, edgeCount}
 use Rattle.line_writer.specs.Writing.{hasRoom, placed, saysIn, leavesIn, writeSays, writeLeaves}
-use Rattle.line_captures.specs.Captures.{Attempt, ends, opensAt, attemptOf, readIn, readBy, readOf}
+use Rattle.line_captures.specs.Captures.{saidOfRead, opensAt, attemptOf, readIn, readBy, readOf}
 use Rattle.line_mode.proofs.Windows.{Apart, Near, hsm-apart, lsm-apart}
 use Rattle.line_writer.proofs.SentBits.{sent-length}
 use Rattle.line_writer.proofs.PagePattern.{at-clock}
 use Rattle.line_writer.proofs.WritingLoop.{more-yes}
 use Rattle.line_writer.proofs.WrittenList.{has-edges}
-use Rattle.line_captures.proofs.EdgeRuns.{gapsAfter, gaps, lastOf, edgeGaps, Sends}
+use Rattle.line_captures.specs.ReadingBack.{gapsAfter, gaps, Carries}
+use Rattle.line_captures.proofs.EdgeRuns.{lastOf, all-inside}
 use Rattle.line_captures.proofs.GapMachine.{passes, passed, page-passes}
 use Rattle.line_captures.proofs.SentGaps.{afterClock, transitions-listed, transition-gaps}
 use Rattle.line_captures.proofs.ReadBack.{fresh-reads}
@@ -56,29 +60,35 @@ module _ (m : LineMode) (first : ℕ) (clock : 4 * m .spacing < 2 ^ 32) where
   at-nominal k gap e = record { least = omega arith; most = omega arith }
 
   -- So with the readings of positions whose gaps pass.
-  positions-near : (slow : Bool) (at p : ℕ) (ps : List ℕ) → 1 ≤ p → passes slow at (gapsAfter _-_ p ps) ≡ true
-      → Forall₂ (Near m) (gapsAfter _-_ p ps) (edgeGaps (times (p ∷ ps)))
-  positions-near slow at p [] h through = Forall₂·nil
-  positions-near slow at p (q ∷ ps) h through =
-      let c = passed slow at (q - p) (gapsAfter _-_ q ps) through in
+  positions-near : (mode : LineMode) (at p : ℕ) (ps : List ℕ) → 1 ≤ p → passes mode at (gapsAfter _-_ p ps) ≡ true
+      → Forall₂ (Near m) (gapsAfter _-_ p ps) (gaps timeBetween (times (p ∷ ps)))
+  positions-near mode at p [] h through = Forall₂·nil
+  positions-near mode at p (q ∷ ps) h through =
+      let c = passed mode at (q - p) (gapsAfter _-_ q ps) through in
       Forall₂·cons
       (at-nominal (q - p) (timeBetween (readingAt (m .spacing) first q) (readingAt (m .spacing) first p)) (nominal p q h (c .least) (c .most)))
-      (positions-near slow (at + (q - p)) q ps (let a = c .least in omega arith) (c .on))
+      (positions-near mode (at + (q - p)) q ps (let a = c .least in omega arith) (c .on))
 
   -- A page's transitions begin at 1;
-  listed-near : (slow : Bool) (rest : List ℕ) → passes slow 1 (gaps _-_ (cond slow lsmDelimiter hsmDelimiter ++ rest)) ≡ true
-      → Forall₂ (Near m) (gaps _-_ (cond slow lsmDelimiter hsmDelimiter ++ rest)) (edgeGaps (times (cond slow lsmDelimiter hsmDelimiter ++ rest)))
-  listed-near true rest h = positions-near true 1 1 (drop 1 (lsmDelimiter ++ rest)) (omega arith) h
-  listed-near false rest h = positions-near false 1 1 (drop 1 (hsmDelimiter ++ rest)) (omega arith) h
+  listed-near : (mode : LineMode) (rest : List ℕ) → passes mode 1 (gaps _-_ (delimiterOf mode ++ rest)) ≡ true
+      → Forall₂ (Near m) (gaps _-_ (delimiterOf mode ++ rest)) (gaps timeBetween (times (delimiterOf mode ++ rest)))
+  listed-near mode rest =
+      by-delimiter
+      (λ n. passes n 1 (gaps _-_ (delimiterOf n ++ rest)) ≡ true
+      → Forall₂ (Near m) (gaps _-_ (delimiterOf n ++ rest)) (gaps timeBetween (times (delimiterOf n ++ rest))))
+      (λ s t q. positions-near (record { spacing = s; tolerance = t; quiet = q; slow = true }) 1 1 (drop 1 (lsmDelimiter ++ rest)) (omega arith))
+      (λ s t q. positions-near (record { spacing = s; tolerance = t; quiet = q; slow = false }) 1 1 (drop 1 (hsmDelimiter ++ rest)) (omega arith))
+      mode
 
-  -- so the readings that are written are sent for the word.
-  pub written-sends : (w : ℕ) → Sends m w (readings m w first)
+  -- so the readings that are written carry the word.
+  pub written-carries : (w : ℕ) → Carries m w (readings m w first)
   unfolding readings
-  written-sends w =
-      subst (λ (ps : List ℕ). Forall₂ (Near m) (gaps _-_ ps) (edgeGaps (times ps))) (sym (transitions-listed (m .slow) w))
-      (listed-near (m .slow) (27 ∷ afterClock 27 (sentBits w))
-      (ap (λ (ps : List ℕ). passes (m .slow) 1 (gaps _-_ ps)) (sym (transitions-listed (m .slow) w))
-      ∙ ap (passes (m .slow) 1) (transition-gaps (m .slow) w) ∙ page-passes (m .slow) (sentBits w) (sent-length w)))
+  written-carries w =
+      all-inside m (gaps _-_ (transitions m w)) (gaps timeBetween (times (transitions m w)))
+      (subst (λ (ps : List ℕ). Forall₂ (Near m) (gaps _-_ ps) (gaps timeBetween (times ps))) (sym (transitions-listed m w))
+      (listed-near m (27 ∷ afterClock 27 (sentBits w))
+      (ap (λ (ps : List ℕ). passes m 1 (gaps _-_ ps)) (sym (transitions-listed m w))
+      ∙ ap (passes m 1) (transition-gaps m w) ∙ page-passes m (sentBits w) (sent-length w))))
 
 -- The last of a list with one more at its end.
 last-appended : (x y : ℕ) (l : List ℕ) → lastOf x (l ++ (y ∷ [])) ≡ y
@@ -90,29 +100,29 @@ pub last-written : (m : LineMode) (w first : ℕ) → lastOf 0 (readings m w fir
 unfolding readings transitions
 last-written m w first =
     ap (λ (ps : List ℕ). lastOf 0 (map (readingAt (m .spacing) first) ps))
-    (more-yes (hasTransition (m .slow) (sentBits w)) 156 (at-clock (m .slow) (sentBits w) 157 (omega arith) (omega arith) refl))
-    ∙ ap (lastOf 0) (map-append (readingAt (m .spacing) first) (positionsTo (hasTransition (m .slow) (sentBits w)) 156) (157 ∷ []))
-    ∙ last-appended 0 (readingAt (m .spacing) first 157) (map (readingAt (m .spacing) first) (positionsTo (hasTransition (m .slow) (sentBits w)) 156))
+    (more-yes (hasTransition m (sentBits w)) 156 (at-clock m (sentBits w) 157 (omega arith) (omega arith) refl))
+    ∙ ap (lastOf 0) (map-append (readingAt (m .spacing) first) (positionsTo (hasTransition m (sentBits w)) 156) (157 ∷ []))
+    ∙ last-appended 0 (readingAt (m .spacing) first 157) (map (readingAt (m .spacing) first) (positionsTo (hasTransition m (sentBits w)) 156))
 
 -- There are as many as transitions.
 pub count-written : (m : LineMode) (w first : ℕ) → length (readings m w first) ≡ edgeCount m w
 unfolding readings edgeCount
-count-written m w first = length-map (transitions (m .slow) w) (readingAt (m .spacing) first)
+count-written m w first = length-map (transitions m w) (readingAt (m .spacing) first)
 
 module _ (m : LineMode) (apart : Apart m) (clock : 4 * m .spacing < 2 ^ 32) (w first : ℕ) (word : w < 2 ^ 48) where
   -- A written page is read, whatever follows it,
   pub written-read : (at : ℕ) (rest : List ℕ)
       → attemptOf m Fresh (readings m w first ++ rest) at
-      ≡ ends (pageRead w) (opensAt m (Dropping (readingAt (m .spacing) first 157)) rest (at + edgeCount m w))
+      ≡ Attempt (Good w) (opensAt m (Dropping (readingAt (m .spacing) first 157)) rest (at + edgeCount m w))
   written-read at rest =
       page-answer m Fresh w (lastOf 0 (readings m w first)) at (readings m w first) rest
-      (fresh-reads m apart w word (readings m w first) (written-sends m first clock w))
-      ∙ ap₂ (λ (x n : ℕ). ends (pageRead w) (opensAt m (Dropping x) rest (at + n))) (last-written m w first) (count-written m w first)
+      (fresh-reads m apart w word (readings m w first) (written-carries m first clock w))
+      ∙ ap₂ (λ (x n : ℕ). Attempt (Good w) (opensAt m (Dropping x) rest (at + n))) (last-written m w first) (count-written m w first)
 
   -- and so it is by the read call at the place where the write call put it.
   pub placed-read : (list : List ℕ) (place : ℕ) → edgeCount m w ≤ length list - place
       → readIn m (placed m list place w first) place
-      ≡ ends (pageRead w) (opensAt m (Dropping (readingAt (m .spacing) first 157)) (drop (place + edgeCount m w) list) (place + edgeCount m w))
+      ≡ Attempt (Good w) (opensAt m (Dropping (readingAt (m .spacing) first 157)) (drop (place + edgeCount m w) list) (place + edgeCount m w))
   unfolding readIn
   placed-read list place room =
       let some = has-edges m list place w first word in
@@ -126,28 +136,27 @@ module _ (m : LineMode) (apart : Apart m) (clock : 4 * m .spacing < 2 ^ 32) (w f
 
 -- The two calls, in a mode's numbers: where the write call answers a number, the read call from the same place on answers the page.
 in-mode : (m : LineMode) → Apart m → 4 * m .spacing < 2 ^ 32 → (list : List ℕ) (place w first n : ℕ)
-    → saysIn m list place w ≡ number n → readIn m (leavesIn m list place w first) place .says ≡ pageRead w
+    → saysIn m list place w ≡ number n → saidOfRead (readIn m (leavesIn m list place w first) place) ≡ pageRead w
 unfolding saysIn leavesIn
 in-mode m apart clock list place w first n h = by (isWord w) refl (hasRoom m list place w) refl h
   where
     by : (t : Bool) → isWord w ≡ t → (s : Bool) → hasRoom m list place w ≡ s
         → cond t (cond s (number (edgeCount m w)) (refused Room)) (refused Wide) ≡ number n
-        → readIn m (cond (t && s) (placed m list place w first) list) place .says ≡ pageRead w
+        → saidOfRead (readIn m (cond (t && s) (placed m list place w first) list) place) ≡ pageRead w
     by false e s f h = absurd (let k = ap (λ (a : Said). a .kind) h in omega arith)
     by true e false f h = absurd (let k = ap (λ (a : Said). a .kind) h in omega arith)
     by true e true f h =
-        ap (λ (a : Attempt). a .says)
-        (placed-read m apart clock w first (ltb-true w (2 ^ 48) e) list place (leb-true (edgeCount m w) (length list - place) f))
+        ap saidOfRead (placed-read m apart clock w first (ltb-true w (2 ^ 48) e) list place (leb-true (edgeCount m w) (length list - place) f))
 
 -- The two calls, for every mode's number: a page that was written is read back from where it was written.
 pub write-then-read : (mode : ℕ) (list : List ℕ) (place w first n : ℕ)
-    → writeSays mode list place w ≡ number n → readOf mode (writeLeaves mode list place w first) place .says ≡ pageRead w
+    → writeSays mode list place w ≡ number n → saidOfRead (readOf mode (writeLeaves mode list place w first) place) ≡ pageRead w
 unfolding writeSays writeLeaves readOf modeOf
 write-then-read mode list place w first n h = by (eqb mode 0) (eqb mode 1) h
   where
     by : (a b : Bool) → saysBy (cond a (Known hsmMode) (cond b (Known lsmMode) Unknown)) (λ m. saysIn m list place w) ≡ number n
-        → readBy (cond a (Known hsmMode) (cond b (Known lsmMode) Unknown))
-        (leavesBy (cond a (Known hsmMode) (cond b (Known lsmMode) Unknown)) (λ m. leavesIn m list place w first) list) place .says ≡ pageRead w
+        → saidOfRead (readBy (cond a (Known hsmMode) (cond b (Known lsmMode) Unknown))
+        (leavesBy (cond a (Known hsmMode) (cond b (Known lsmMode) Unknown)) (λ m. leavesIn m list place w first) list) place) ≡ pageRead w
     by true b h = in-mode hsmMode hsm-apart (omega arith) list place w first n h
     by false true h = in-mode lsmMode lsm-apart (omega arith) list place w first n h
     by false false h = absurd (let k = ap (λ (a : Said). a .kind) h in omega arith)

@@ -1,33 +1,33 @@
 -- 01, "The line": "A capture is a lent list of readings; reading starts at a place in the capture that the caller names, with a fresh reader."
-use Prim.Native.Nat.{ℕ, _+_}
-use mathlib.Core.Path.{_≡_}
-use mathlib.Core.Bool.{Bool, true, false, cond}
+use Prim.Native.Nat.{ℕ, zero, suc, _+_}
+use mathlib.Core.Bool.{Bool, true, false}
 use mathlib.Core.List.{List, [], _∷_}
-use lib.Dec.{eqb, ltb}
 use lib.ListN.{length, drop}
-use Rattle.answers.specs.Answers.{Said, said, nothing, refused}
-use Rattle.answers.specs.declared.Refusal.the-variants.{Cut, Room, Mode}
+use Rattle.answers.specs.Choices.{if_then_else_, _<?_, _=?_}
+use Rattle.answers.specs.Answers.{Said, nothing, refused}
+use Rattle.answers.specs.declared.Refusal.the-variants as refusal
 use Rattle.line_mode.specs.declared.modes.LineMode.{LineMode}
 use Rattle.line_mode.specs.declared.modes.Found.{Found}
 use Rattle.line_mode.specs.declared.modes.Found.the-variants.{Known, Unknown}
+use Rattle.line_reader.specs.declared.endings.Ending.{Ending}
+use Rattle.line_reader.specs.declared.endings.Ending.the-variants.{Cut}
+use Rattle.line_reader.specs.declared.endings.Heard.{Heard}
+use Rattle.line_reader.specs.declared.endings.Heard.the-variants.{Nothing, Ended}
 use Rattle.line_reader.specs.declared.reader.Reader.{Reader}
 use Rattle.line_reader.specs.declared.reader.Reader.the-variants.{Fresh, Open, Dropping}
-use Rattle.line_captures.specs.declared.captures.Outcome.{Outcome}
+use Rattle.line_captures.specs.declared.captures.ReadOutcome.{ReadOutcome}
+use Rattle.line_captures.specs.declared.captures.ReadOutcome.the-variants.{UnknownMode, PastTheEnd, AtTheEnd, Attempt}
 use Rattle.line_mode.specs.Modes.{modeOf}
+use Rattle.line_reader.specs.Endings.{saidOfEnding}
 use Rattle.line_reader.specs.Reading.{edgeOf}
 
--- What a capture brings: what is said, and where the next attempt opens.
-pub record Attempt : Type 0 where
-  pub says : Said
-  pub next : ℕ
-
--- That the code's answer is just this.
-pub record Tells (r : Outcome) (a : Attempt) : Type 0 where
-  pub answer : said (r .answer) ≡ a .says
-  pub next : r .next ≡ a .next
-
-abbrev pub ends : Said → ℕ → Attempt
-ends says next = record { says = says; next = next }
+-- What the read call says. Row 14 of the refusals, Mode: "not 0 or 1"; row 12, Room: "place past the end"; "It answers nothing if the place
+-- is the length", and else "the first attempt's outcome".
+abbrev pub saidOfRead : ReadOutcome → Said
+saidOfRead UnknownMode = refused refusal.Mode
+saidOfRead PastTheEnd = refused refusal.Room
+saidOfRead AtTheEnd = nothing
+saidOfRead (Attempt ending next) = saidOfEnding ending
 
 -- Whether an attempt is open.
 abbrev pub isOpen : Reader → Bool
@@ -35,38 +35,54 @@ isOpen Fresh = false
 isOpen (Open at last bits) = true
 isOpen (Dropping last) = false
 
--- "the end of the capture counting as quiet": a Cut, if an attempt is open there.
-abbrev pub atTheEnd : Reader → List Said
-atTheEnd r = cond (isOpen r) (refused Cut ∷ []) []
-
 -- "where the next attempt opens, or the length if none does": the place of the first edge that leaves the reader with an open attempt,
 -- where the edges of the list stand at the places from `at` on.
-unfoldable pub opensAt : LineMode → Reader → List ℕ → ℕ → ℕ
-opensAt m r [] at = at
-opensAt m r (x ∷ rest) at =
-    let later = opensAt m (edgeOf m r x .reader) rest (at + 1) in cond (isOpen (edgeOf m r x .reader)) at later
+unfoldable pub opensAt : (mode : LineMode) (reader : Reader) (edges : List ℕ) (at : ℕ) → ℕ
+opensAt mode reader [] at = at
+opensAt mode reader (x ∷ rest) at =
+    let after = edgeOf mode reader x .reader in
+    if isOpen after then at
+    else opensAt mode after rest (at + 1)
 
--- "the first attempt's outcome, the end of the capture counting as quiet": the first thing that is said; at the end of the list, Cut. (The
--- read call asks this of a fresh reader and at least one edge, so an attempt is open there.) The edge that ends an attempt by Cut opens
--- the next, so the next place is its own.
-unfoldable pub attemptOf : LineMode → Reader → List ℕ → ℕ → Attempt
-attemptOf m r [] at = ends (refused Cut) at
-attemptOf m r (x ∷ rest) at =
-    let brought = edgeOf m r x in
-    let later = attemptOf m (brought .reader) rest (at + 1) in
-    let ended = ends (brought .says) (cond (isOpen (brought .reader)) at (opensAt m (brought .reader) rest (at + 1))) in
-    cond (eqb (brought .says .kind) 0) later ended
+-- An edge of an attempt: it goes on, or it has ended and the next one opens there.
+abbrev pub endsAt : Heard → (goes-on : ReadOutcome) (next : ℕ) → ReadOutcome
+endsAt Nothing goes-on next = goes-on
+endsAt (Ended ending) goes-on next = Attempt ending next
 
--- The read call in a mode. Row 12 of the refusals, Room: "place past the end"; "It answers nothing if the place is the length".
-unfoldable pub readIn : LineMode → List ℕ → ℕ → Attempt
-readIn m capture place =
-    cond (ltb (length capture) place) (ends (refused Room) place)
-    (cond (eqb place (length capture)) (ends nothing place) (attemptOf m Fresh (drop place capture) place))
+-- "the first attempt's outcome, the end of the capture counting as quiet": how it ends at the first edge that ends it; at the end of the
+-- list, Cut. The next attempt opens at the edge that ends this one, as "that edge opens the next" after Cut, or at a later one. (The read call
+-- asks this of a fresh reader and at least one edge, so an attempt is open at the end of the list.)
+unfoldable pub attemptOf : (mode : LineMode) (reader : Reader) (edges : List ℕ) (at : ℕ) → ReadOutcome
+attemptOf mode reader [] at = Attempt Cut at
+attemptOf mode reader (x ∷ rest) at =
+    endsAt (edgeOf mode reader x .heard) (attemptOf mode (edgeOf mode reader x .reader) rest (at + 1)) (opensAt mode reader (x ∷ rest) at)
 
--- The read call. 01 names no next place on a refusal; here it is the place itself, which may lie past the end.
-abbrev pub readBy : Found → List ℕ → ℕ → Attempt
-readBy (Known m) capture place = readIn m capture place
-readBy Unknown capture place = ends (refused Mode) place
+-- The read call in a mode,
+unfoldable pub readIn : (mode : LineMode) (capture : List ℕ) (place : ℕ) → ReadOutcome
+readIn mode capture place =
+    if length capture <? place then PastTheEnd
+    else if place =? length capture then AtTheEnd
+    else attemptOf mode Fresh (drop place capture) place
 
-unfoldable pub readOf : ℕ → List ℕ → ℕ → Attempt
+-- and by the mode's number.
+abbrev pub readBy : (mode : Found) (capture : List ℕ) (place : ℕ) → ReadOutcome
+readBy (Known mode) capture place = readIn mode capture place
+readBy Unknown capture place = UnknownMode
+
+unfoldable pub readOf : (mode : ℕ) (capture : List ℕ) (place : ℕ) → ReadOutcome
 readOf mode capture place = readBy (modeOf mode) capture place
+
+-- How each attempt of a capture ends, in order: the read call goes from place to next place, until it brings no attempt. The first argument
+-- bounds the number of calls; each next place is greater than the place, so as many as there are readings suffice.
+abbrev pub onwards : (outcome : ReadOutcome) (from : ℕ → List Ending) → List Ending
+onwards UnknownMode from = []
+onwards PastTheEnd from = []
+onwards AtTheEnd from = []
+onwards (Attempt ending next) from = ending ∷ from next
+
+unfoldable pub attemptsFrom : (most mode : ℕ) (capture : List ℕ) (place : ℕ) → List Ending
+attemptsFrom zero mode capture place = []
+attemptsFrom (suc more) mode capture place = onwards (readOf mode capture place) (attemptsFrom more mode capture)
+
+unfoldable pub attempts : (mode : ℕ) (capture : List ℕ) → List Ending
+attempts mode capture = attemptsFrom (length capture) mode capture 0

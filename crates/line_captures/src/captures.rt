@@ -1,24 +1,43 @@
 // Captures: the first attempt from a place on, and where the next one opens.
 ghost use mathlib.Core.Path.{_≡_};
-ghost use mathlib.Core.Bool.{not, cond};
-ghost use Prim.Native.Nat.{_+_, _≤_};
-ghost use lib.Dec.{eqb};
+ghost use Prim.Native.Nat.{ℕ, _+_, _≤_};
 ghost use lib.ListN.{length, drop};
+ghost use Rattle.answers.specs.Choices.{if_then_else_};
 ghost use Rattle.answers.specs.Answers.{said};
-ghost use Rattle.line_reader.specs.declared.reader.Reader.the-variants.{Fresh, Dropping};
-ghost use Rattle.line_captures.specs.Captures.{Tells, isOpen, opensAt, attemptOf, readIn, readOf};
+ghost use Rattle.line_reader.specs.declared.reader.Reader.the-variants.{Fresh, Open, Dropping};
+ghost use Rattle.line_captures.specs.Captures.{isOpen, opensAt, attemptOf, readIn, readOf, saidOfRead};
 use answers::Answer;
 use answers::Refusal;
 use line_mode::Found;
 use line_mode::LineMode;
 use line_mode::mode_of;
+use line_reader::Ending;
+use line_reader::Heard;
 use line_reader::Reader;
 use line_reader::drop_on;
+use line_reader::go_on;
 
-// What reading a capture answers, and where the next attempt opens.
-pub struct Outcome {
-    pub answer: Answer,
-    pub next: usize,
+// What reading a capture from a place on brings: no mode has that number; the place is past the end, or at it; or how the first attempt
+// ends, and where the next one opens.
+pub enum ReadOutcome {
+    UnknownMode,
+    PastTheEnd,
+    AtTheEnd,
+    Attempt { ending: Ending, next: usize },
+}
+
+impl ReadOutcome {
+    // The outcome as an answer.
+    pub fn answer(self) -> Answer
+        ensures { λ r. ⌜ said r ≡ saidOfRead self ⌝ }
+    {
+        match self {
+            ReadOutcome::UnknownMode => Answer::Refused(Refusal::Mode),
+            ReadOutcome::PastTheEnd => Answer::Refused(Refusal::Room),
+            ReadOutcome::AtTheEnd => Answer::Nothing,
+            ReadOutcome::Attempt { ending, next } => ending.answer(),
+        }
+    }
 }
 
 // Whether an attempt is open.
@@ -29,23 +48,6 @@ fn is_open(reader: Reader) -> bool
         Reader::Fresh => false,
         Reader::Open { at, last, bits } => true,
         Reader::Dropping { last } => false,
-    }
-}
-
-// Whether an answer says anything.
-fn speaks(answer: Answer) -> bool
-    ensures { λ r. ⌜ r ≡ not (eqb (said answer .kind) 0) ⌝ }
-{
-    match answer {
-        Answer::Nothing => false,
-        Answer::Refused(refusal) => true,
-        Answer::Page(word) => true,
-        Answer::Order(word) => true,
-        Answer::Settled { ability, master } => true,
-        Answer::Value(value) => true,
-        Answer::Number(number) => true,
-        Answer::Quiet => true,
-        Answer::Unfit => true,
     }
 }
 
@@ -70,85 +72,94 @@ fn opens_at(tail: &[u32], place: usize, from: usize, mode: LineMode, last: u32) 
     place + i
 }
 
-// The end of an attempt: the edge that ended it may have opened the next, else a later one does.
-fn ended(
-    tail: &[u32],
-    place: usize,
-    i: usize,
-    mode: LineMode,
-    reader: Reader,
-    answer: Answer,
-) -> Outcome
+// Where the next attempt opens once one has ended at an edge: the edge may have opened it, else a later one does.
+fn next_opens(tail: &[u32], place: usize, i: usize, mode: LineMode, reader: Reader) -> usize
     requires { ⌜ (i + 1 ≤ length (now tail)) × (place + length (now tail) ≤ 18446744073709551615) ⌝ }
-    ensures answer { λ r. ⌜ said (r .answer) ≡ said answer ⌝ }
-    ensures next { λ r. ⌜ r .next ≡ cond (isOpen reader) (place + i) (opensAt mode reader (drop (i + 1) (now (tail .entry))) (place + (i + 1))) ⌝ }
+    ensures { λ r. ⌜ r ≡ (if isOpen reader then place + i else opensAt mode reader (drop (i + 1) (now (tail .entry))) (place + (i + 1))) ⌝ }
 {
     match reader {
-        Reader::Fresh => Outcome {
-            answer: answer,
-            next: place + (i + 1),
-        },
-        Reader::Open { at, last, bits } => Outcome {
-            answer: answer,
-            next: place + i,
-        },
-        Reader::Dropping { last } => Outcome {
-            answer: answer,
-            next: opens_at(tail, place, i + 1, mode, last),
-        },
+        Reader::Fresh => place + (i + 1),
+        Reader::Open { at, last, bits } => place + i,
+        Reader::Dropping { last } => opens_at(tail, place, i + 1, mode, last),
     }
 }
 
-// The first attempt of a capture's tail that stands at a place.
-fn first_attempt(tail: &[u32], place: usize, mode: LineMode) -> Outcome
-    requires { ⌜ place + length (now tail) ≤ 18446744073709551615 ⌝ }
-    ensures { λ r. ⌜ Tells r (attemptOf mode Fresh (now (tail .entry)) place) ⌝ }
+// The position of an open attempt's last edge.
+fn position_of(reader: Reader) -> u32
+    ensures { λ r. ⌜ ((at last bits : ℕ) → reader ≡ Open at last bits → r ≡ at) ⌝ }
 {
-    let mut reader = Reader::Fresh;
-    let mut i: usize = 0;
+    match reader {
+        Reader::Fresh => 0,
+        Reader::Open { at, last, bits } => at,
+        Reader::Dropping { last } => 0,
+    }
+}
+
+// The bits of an open attempt.
+fn bits_of(reader: Reader) -> u64
+    ensures { λ r. ⌜ ((at last bits : ℕ) → reader ≡ Open at last bits → r ≡ bits) ⌝ }
+{
+    match reader {
+        Reader::Fresh => 0,
+        Reader::Open { at, last, bits } => bits,
+        Reader::Dropping { last } => 0,
+    }
+}
+
+// The first attempt of a capture's tail that stands at a place: its first edge opens it. The loop holds the attempt as numbers, since an edge costs
+// twice as much where the reader goes through memory.
+fn first_attempt(tail: &[u32], place: usize, mode: LineMode) -> ReadOutcome
+    requires { ⌜ (1 ≤ length (now tail)) × (place + length (now tail) ≤ 18446744073709551615) ⌝ }
+    ensures { λ r. ⌜ r ≡ attemptOf mode Fresh (now (tail .entry)) place ⌝ }
+{
+    let mut at: u32 = 1;
+    let mut last = tail[0];
+    let mut bits: u64 = 0;
+    let mut i: usize = 1;
     while i < tail.len() {
-        let step = reader.edge(mode, tail[i]);
-        reader = step.reader;
-        let answer = step.answer;
-        if speaks(answer) {
-            return ended(tail, place, i, mode, reader, answer);
+        let reading = tail[i];
+        let step = go_on(mode, at, last, bits, reading);
+        let reader = step.reader;
+        let heard = step.heard;
+        match heard {
+            Heard::Nothing => {}
+            Heard::Ended(ending) => {
+                return ReadOutcome::Attempt {
+                    ending: ending,
+                    next: next_opens(tail, place, i, mode, reader),
+                };
+            }
         }
+        at = position_of(reader);
+        last = reading;
+        bits = bits_of(reader);
         i += 1;
     }
-    Outcome {
-        answer: Answer::Refused(Refusal::Cut),
+    ReadOutcome::Attempt {
+        ending: Ending::Cut,
         next: place + i,
     }
 }
 
-// Reading in a mode whose numbers are known: Room, nothing, or the first attempt from the place on.
-fn read_in(capture: &[u32], place: usize, mode: LineMode) -> Outcome
-    ensures { λ r. ⌜ Tells r (readIn mode (now (capture .entry)) place) ⌝ }
+// Reading in a mode whose numbers are known.
+fn read_in(capture: &[u32], place: usize, mode: LineMode) -> ReadOutcome
+    ensures { λ r. ⌜ r ≡ readIn mode (now (capture .entry)) place ⌝ }
 {
     if capture.len() < place {
-        return Outcome {
-            answer: Answer::Refused(Refusal::Room),
-            next: place,
-        };
+        return ReadOutcome::PastTheEnd;
     }
     if place == capture.len() {
-        return Outcome {
-            answer: Answer::Nothing,
-            next: place,
-        };
+        return ReadOutcome::AtTheEnd;
     }
     first_attempt(&capture[place..], place, mode)
 }
 
-// The first attempt from a place of a capture on: its outcome, and where the next one opens.
-pub fn read(capture: &[u32], place: usize, mode: u32) -> Outcome
-    ensures { λ r. ⌜ Tells r (readOf mode (now (capture .entry)) place) ⌝ }
+// The first attempt from a place of a capture on: how it ends, and where the next one opens.
+pub fn read(capture: &[u32], place: usize, mode: u32) -> ReadOutcome
+    ensures { λ r. ⌜ r ≡ readOf mode (now (capture .entry)) place ⌝ }
 {
     match mode_of(mode) {
         Found::Known(m) => read_in(capture, place, m),
-        Found::Unknown => Outcome {
-            answer: Answer::Refused(Refusal::Mode),
-            next: place,
-        },
+        Found::Unknown => ReadOutcome::UnknownMode,
     }
 }

@@ -1,5 +1,5 @@
 // Reading captures: the first attempt from a place on, and where the next one opens.
 mod captures;
 
-pub use captures::Outcome;
+pub use captures::ReadOutcome;
 pub use captures::read;

@@ -1,2 +1,3 @@
 pub mod GapExamples
 pub mod Windows
+pub mod Wrapped

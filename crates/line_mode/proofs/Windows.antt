@@ -26,7 +26,7 @@ pub record Near (m : LineMode) (k gap : ℕ) : Type 0 where
   pub least : k * m .spacing ≤ gap + m .tolerance
   pub most : gap ≤ k * m .spacing + m .tolerance
 
-inside : (m : LineMode) (k gap : ℕ) → Near m k gap → within m k gap ≡ true
+pub inside : (m : LineMode) (k gap : ℕ) → Near m k gap → within m k gap ≡ true
 inside m k gap h = rw (le-leb (k * m .spacing) (gap + m .tolerance) (h .least), le-leb gap (k * m .spacing + m .tolerance) (h .most))
 
 over : (m : LineMode) (k gap : ℕ) → k * m .spacing + m .tolerance < gap → within m k gap ≡ false

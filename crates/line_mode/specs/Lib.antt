@@ -1,4 +1,3 @@
 pub mod Clock
 pub mod Modes
 pub mod Gaps
-pub mod Delimiters

@@ -1,8 +1,5 @@
 // The two line modes, and how a gap is judged by a mode's numbers.
 ghost use mathlib.Core.Path.{_≡_};
-ghost use mathlib.Core.Bool.{_&&_};
-ghost use Prim.Native.Nat.{_+_, _≤_};
-ghost use lib.Dec.{leb};
 ghost use Rattle.answers.specs.Answers.{said};
 ghost use Rattle.line_mode.specs.Modes.{hsmMode, lsmMode, modeOf};
 ghost use Rattle.line_mode.specs.Gaps.{judgementOf, saidOfGap, judged};
@@ -28,14 +25,6 @@ pub enum Judgement {
     Positions(u32),
     Quiet,
     Unfit,
-}
-
-// Whether a gap lies within a tolerance of a centre, ends included. The numbers are below 2^40, so no sum is too large.
-fn near(gap: u64, centre: u64, tolerance: u64) -> bool
-    requires { ⌜ (gap ≤ 1099511627776) × (centre ≤ 1099511627776) × (tolerance ≤ 1099511627776) ⌝ }
-    ensures { λ r. ⌜ r ≡ (leb centre (gap + tolerance) && leb gap (centre + tolerance)) ⌝ }
-{
-    centre <= gap + tolerance && gap <= centre + tolerance
 }
 
 impl LineMode {
@@ -67,23 +56,28 @@ impl LineMode {
         Self::LSM
     }
 
-    // How many positions a gap counts as, or that it is quiet, or unfit.
+    // How many positions a gap counts as, or that it is quiet, or unfit. Each window begins one spacing after the last; how far into it the gap
+    // reaches is a number above every width, by wrapping, where it does not reach it.
     pub fn judgement(self, gap: u32) -> Judgement
         ensures { λ r. ⌜ r ≡ judgementOf self gap ⌝ }
     {
-        let g = gap as u64;
-        let s = self.spacing as u64;
-        let t = self.tolerance as u64;
-        if near(g, 1 * s, t) {
+        let spacing = self.spacing as u64;
+        let tolerance = self.tolerance as u64;
+        let width = 2 * tolerance;
+        let first = std::num::wrapping_sub_u64((gap as u64) + tolerance, spacing);
+        if first <= width {
             return Judgement::Positions(1);
         }
-        if near(g, 2 * s, t) {
+        let second = std::num::wrapping_sub_u64(first, spacing);
+        if second <= width {
             return Judgement::Positions(2);
         }
-        if near(g, 3 * s, t) {
+        let third = std::num::wrapping_sub_u64(second, spacing);
+        if third <= width {
             return Judgement::Positions(3);
         }
-        if near(g, 4 * s, t) {
+        let fourth = std::num::wrapping_sub_u64(third, spacing);
+        if fourth <= width {
             return Judgement::Positions(4);
         }
         if self.quiet <= gap {

@@ -7,11 +7,10 @@ use native.Mathlib.Nat.{mod-lt}
 use native.Mathlib.Omega.{arith}
 use lib.Dec.{eqb}
 use lib.Pow.{pow-pos}
-use Rattle.page_check_bits.specs.CheckBits.{agrees}
 use Rattle.line_mode.specs.declared.modes.LineMode.{LineMode}
 use Rattle.line_mode.specs.declared.modes.Judgement.{Judgement}
 use Rattle.line_mode.specs.declared.modes.Judgement.the-variants.{Positions, Quiet, Unfit}
-use Rattle.line_reader.specs.declared.endings.Ending.the-variants.{Good, Gap, Check}
+use Rattle.line_reader.specs.declared.endings.Ending.the-variants.{Gap}
 use Rattle.line_reader.specs.declared.endings.Heard.the-variants.{Nothing, Ended}
 use Rattle.line_reader.specs.declared.reader.Reader.{Reader}
 use Rattle.line_reader.specs.declared.reader.Reader.the-variants.{Fresh, Open, Dropping}
@@ -19,7 +18,7 @@ use Rattle.line_reader.specs.declared.reader.Step.{Step}
 use Rattle.line_mode.specs.Clock.{timeBetween}
 use Rattle.line_mode.specs.Gaps.{judgementOf}
 use Rattle.line_reader.specs.Pattern.{asks}
-use Rattle.line_reader.specs.Reading.{step, withBit, arrives, goesOn, dropsOn, edgeOf}
+use Rattle.line_reader.specs.Reading.{step, pageEnd, withBit, arrives, goesOn, dropsOn, edgeOf}
 
 -- A reading d later than another.
 pub time-of-distance : (a d : ℕ) → d < 2 ^ 32 → timeBetween ((a + d) % 2 ^ 32) (a % 2 ^ 32) ≡ d
@@ -58,16 +57,16 @@ choice-later δ false b c = refl
 arrives-later : (δ at bits reading : ℕ) → arrives at bits ((reading + δ) % 2 ^ 32) ≡ stepLater δ (arrives at bits reading)
 unfolding arrives
 arrives-later δ at bits reading =
-    choice-later δ (eqb at 157) (step (Ended (cond (agrees bits) (Good (bits % 2 ^ 48)) Check)) (Dropping reading)) (step Nothing (Open at reading bits))
+    choice-later δ (eqb at 157) (step (Ended (pageEnd bits)) (Dropping reading)) (step Nothing (Open at reading bits))
 
-goes-on-later : (δ : ℕ) (slow : Bool) (at bits reading : ℕ) (j : Judgement)
-    → goesOn slow at bits ((reading + δ) % 2 ^ 32) j ≡ stepLater δ (goesOn slow at bits reading j)
+goes-on-later : (δ : ℕ) (m : LineMode) (at bits reading : ℕ) (j : Judgement)
+    → goesOn m at bits ((reading + δ) % 2 ^ 32) j ≡ stepLater δ (goesOn m at bits reading j)
 unfolding goesOn
-goes-on-later δ slow at bits reading Quiet = refl
-goes-on-later δ slow at bits reading Unfit = refl
-goes-on-later δ slow at bits reading (Positions k) =
-    ap (λ (b : Step). cond (asks slow at k) b (step (Ended Gap) (Dropping ((reading + δ) % 2 ^ 32)))) (arrives-later δ (at + k) (withBit at k bits) reading)
-    ∙ choice-later δ (asks slow at k) (arrives (at + k) (withBit at k bits) reading) (step (Ended Gap) (Dropping reading))
+goes-on-later δ m at bits reading Quiet = refl
+goes-on-later δ m at bits reading Unfit = refl
+goes-on-later δ m at bits reading (Positions k) =
+    ap (λ (b : Step). cond (asks m at k) b (step (Ended Gap) (Dropping ((reading + δ) % 2 ^ 32)))) (arrives-later δ (at + k) (withBit at k bits) reading)
+    ∙ choice-later δ (asks m at k) (arrives (at + k) (withBit at k bits) reading) (step (Ended Gap) (Dropping reading))
 
 drops-on-later : (δ reading : ℕ) (j : Judgement) → dropsOn ((reading + δ) % 2 ^ 32) j ≡ stepLater δ (dropsOn reading j)
 unfolding dropsOn
@@ -80,8 +79,8 @@ pub edge-later : (m : LineMode) (δ : ℕ) (r : Reader) (reading : ℕ) → edge
 unfolding edgeOf
 edge-later m δ Fresh reading = refl
 edge-later m δ (Open at last bits) reading =
-    ap (λ (gap : ℕ). goesOn (m .slow) at bits ((reading + δ) % 2 ^ 32) (judgementOf m gap)) (time-shifted δ reading last)
-    ∙ goes-on-later δ (m .slow) at bits reading (judgementOf m (timeBetween reading last))
+    ap (λ (gap : ℕ). goesOn m at bits ((reading + δ) % 2 ^ 32) (judgementOf m gap)) (time-shifted δ reading last)
+    ∙ goes-on-later δ m at bits reading (judgementOf m (timeBetween reading last))
 edge-later m δ (Dropping last) reading =
     ap (λ (gap : ℕ). dropsOn ((reading + δ) % 2 ^ 32) (judgementOf m gap)) (time-shifted δ reading last)
     ∙ drops-on-later δ reading (judgementOf m (timeBetween reading last))

@@ -1,2 +1,3 @@
 pub mod PatternLaws
+pub mod StepLaws
 pub mod ClockShift

@@ -1,6 +1,5 @@
 -- 01, "The line": "Reading goes edge by edge."
 use Prim.Native.Nat.{ℕ, _+_, _/_, _%_, _^_}
-use mathlib.Core.Bool.{Bool}
 use mathlib.Core.List.{List, [], _∷_, map}
 use Rattle.answers.specs.Choices.{if_then_else_, _=?_}
 use Rattle.answers.specs.Answers.{Said}
@@ -8,6 +7,7 @@ use Rattle.page_check_bits.specs.CheckBits.{agrees}
 use Rattle.line_mode.specs.declared.modes.LineMode.{LineMode}
 use Rattle.line_mode.specs.declared.modes.Judgement.{Judgement}
 use Rattle.line_mode.specs.declared.modes.Judgement.the-variants.{Positions, Quiet, Unfit}
+use Rattle.line_reader.specs.declared.endings.Ending.{Ending}
 use Rattle.line_reader.specs.declared.endings.Ending.the-variants.{Good, Gap, Cut, Check}
 use Rattle.line_reader.specs.declared.endings.Heard.{Heard}
 use Rattle.line_reader.specs.declared.endings.Heard.the-variants.{Nothing, Ended}
@@ -16,8 +16,9 @@ use Rattle.line_reader.specs.declared.reader.Reader.the-variants.{Fresh,
 use Rattle.line_reader.specs.declared.reader.Step.{Step}
 use Rattle.line_mode.specs.Clock.{timeBetween}
 use Rattle.line_mode.specs.Gaps.{judgementOf}
+use Rattle.line_page.specs.Pattern.{isClock}
 use Rattle.line_reader.specs.Endings.{saidOfHeard}
-use Rattle.line_reader.specs.Pattern.{isClock, asks}
+use Rattle.line_reader.specs.Pattern.{asks}
 
 -- What an edge brings: what is heard of it, and the reader afterwards.
 abbrev pub step : Heard → Reader → Step
@@ -28,19 +29,23 @@ step heard reader = record { heard = heard; reader = reader }
 abbrev pub withBit : (at k bits : ℕ) → ℕ
 withBit at k bits = if isClock at then bits / 2 + (if k =? 1 then 2 ^ 63 else 0) else bits
 
--- A gap that the pattern asked for: the edge stands at its position. "The edge at 157 ends it, good if the check bits agree, else Check."
+-- "good if the check bits agree, else Check"
+abbrev pub pageEnd : (bits : ℕ) → Ending
+pageEnd bits = if agrees bits then Good (bits % 2 ^ 48) else Check
+
+-- A gap that the pattern asked for: the edge stands at its position. "The edge at 157 ends it".
 unfoldable pub arrives : (at bits reading : ℕ) → Step
 arrives at bits reading =
-    if at =? 157 then step (Ended (if agrees bits then Good (bits % 2 ^ 48) else Check)) (Dropping reading)
+    if at =? 157 then step (Ended (pageEnd bits)) (Dropping reading)
     else step Nothing (Open at reading bits)
 
 -- A further edge of an attempt, by its gap. "A quiet gap in an attempt ends it (Cut), and that edge opens the next. Any other wrong gap
 -- ends it (Gap)."
-unfoldable pub goesOn : (slow : Bool) (at bits reading : ℕ) → Judgement → Step
-goesOn slow at bits reading Quiet = step (Ended Cut) (Open 1 reading 0)
-goesOn slow at bits reading Unfit = step (Ended Gap) (Dropping reading)
-goesOn slow at bits reading (Positions k) =
-    if asks slow at k then arrives (at + k) (withBit at k bits) reading
+unfoldable pub goesOn : (mode : LineMode) (at bits reading : ℕ) → Judgement → Step
+goesOn mode at bits reading Quiet = step (Ended Cut) (Open 1 reading 0)
+goesOn mode at bits reading Unfit = step (Ended Gap) (Dropping reading)
+goesOn mode at bits reading (Positions k) =
+    if asks mode at k then arrives (at + k) (withBit at k bits) reading
     else step (Ended Gap) (Dropping reading)
 
 -- "After Gap, Check or a good page, edges are dropped without an answer until one follows a quiet gap; it opens an attempt."
@@ -52,7 +57,7 @@ dropsOn reading (Positions k) = step Nothing (Dropping reading)
 -- What an edge brings to a reader. "A fresh reader takes the next edge as position 1 and opens an attempt."
 unfoldable pub edgeOf : (mode : LineMode) (reader : Reader) (reading : ℕ) → Step
 edgeOf mode Fresh reading = step Nothing (Open 1 reading 0)
-edgeOf mode (Open at last bits) reading = goesOn (mode .slow) at bits reading (judgementOf mode (timeBetween reading last))
+edgeOf mode (Open at last bits) reading = goesOn mode at bits reading (judgementOf mode (timeBetween reading last))
 edgeOf mode (Dropping last) reading = dropsOn reading (judgementOf mode (timeBetween reading last))
 
 -- "Reading goes edge by edge." What is heard at each edge of a list,

@@ -1,12 +1,11 @@
-// The edge reader, and the pattern of a page that it goes by.
-mod alone;
+// The edge reader.
 mod endings;
 mod pattern;
 mod reader;
 
-pub use alone::edge_alone;
 pub use endings::Ending;
 pub use endings::Heard;
 pub use reader::Reader;
 pub use reader::Step;
 pub use reader::drop_on;
+pub use reader::go_on;

@@ -1,15 +1,15 @@
 // The edge reader: a reader by value, an edge in, what it says and the next reader out.
 ghost use mathlib.Core.Path.{_≡_};
-ghost use Prim.Native.Nat.{_≤_};
+ghost use mathlib.Core.Bool.{cond};
+ghost use Prim.Native.Nat.{_+_, _/_, _^_, _≤_};
+ghost use lib.Dec.{eqb};
 ghost use Rattle.line_mode.specs.declared.modes.Judgement.the-variants.{Positions};
+ghost use Rattle.line_reader.specs.declared.endings.Heard.the-variants.{Nothing, Ended};
 ghost use Rattle.line_reader.specs.declared.reader.Reader.the-variants.{Open, Dropping};
-ghost use Rattle.line_mode.specs.Clock.{timeBetween};
-ghost use Rattle.line_mode.specs.Gaps.{judgementOf};
-ghost use Rattle.line_reader.specs.Reading.{step, withBit, arrives, goesOn, dropsOn, edgeOf};
+ghost use Rattle.line_reader.specs.Reading.{step, pageEnd, goesOn, edgeOf};
 use crate::endings::Ending;
 use crate::endings::Heard;
-use crate::pattern::is_clock;
-use crate::pattern::pattern_asks;
+use crate::pattern::spans;
 use line_mode::Judgement;
 use line_mode::LineMode;
 use line_mode::time_between;
@@ -29,7 +29,7 @@ pub struct Step {
 }
 
 // The edge opens an attempt.
-pub(crate) fn opened(heard: Heard, reading: u32) -> Step
+fn opened(heard: Heard, reading: u32) -> Step
     ensures { λ r. ⌜ r ≡ step heard (Open 1 reading 0) ⌝ }
 {
     Step {
@@ -43,7 +43,7 @@ pub(crate) fn opened(heard: Heard, reading: u32) -> Step
 }
 
 // Edges are dropped from here on.
-pub(crate) fn dropped(heard: Heard, reading: u32) -> Step
+fn dropped(heard: Heard, reading: u32) -> Step
     ensures { λ r. ⌜ r ≡ step heard (Dropping reading) ⌝ }
 {
     Step {
@@ -52,29 +52,10 @@ pub(crate) fn dropped(heard: Heard, reading: u32) -> Step
     }
 }
 
-// The bits with one more, if the last edge was a clock. The newest bit is the highest, so after 64 the first is the lowest.
-pub(crate) fn with_bit(at: u32, k: u32, bits: u64) -> u64
-    ensures { λ r. ⌜ r ≡ withBit at k bits ⌝ }
+// The attempt goes on from a position.
+fn moved(at: u32, bits: u64, reading: u32) -> Step
+    ensures { λ r. ⌜ r ≡ step Nothing (Open at reading bits) ⌝ }
 {
-    if is_clock(at) {
-        if k == 1 {
-            return bits / 2 + 9223372036854775808;
-        }
-        return bits / 2;
-    }
-    bits
-}
-
-// An edge where the pattern asked for one.
-pub(crate) fn arrive(at: u32, bits: u64, reading: u32) -> Step
-    ensures { λ r. ⌜ r ≡ arrives at bits reading ⌝ }
-{
-    if at == 157 {
-        if page_check_bits::bits_agree(bits) {
-            return dropped(Heard::Ended(Ending::Good(bits % page_word::WIDE)), reading);
-        }
-        return dropped(Heard::Ended(Ending::Check), reading);
-    }
     Step {
         heard: Heard::Nothing,
         reader: Reader::Open {
@@ -85,37 +66,72 @@ pub(crate) fn arrive(at: u32, bits: u64, reading: u32) -> Step
     }
 }
 
-// An edge so many positions after the last one of an attempt. Most edges follow a clock, so that is looked at first.
-fn step_on(slow: bool, at: u32, k: u32, bits: u64, reading: u32) -> Step
-    requires { ⌜ (1 ≤ k) × (k ≤ 4) ⌝ }
-    ensures { λ r. ⌜ r ≡ goesOn slow at bits reading (Positions k) ⌝ }
+// The edge at 157.
+fn whole(bits: u64, reading: u32) -> Step
+    ensures { λ r. ⌜ r ≡ step (Ended (pageEnd bits)) (Dropping reading) ⌝ }
 {
-    if is_clock(at) {
-        if k <= 2 {
-            return arrive(at + k, with_bit(at, k, bits), reading);
+    if page_check_bits::bits_agree(bits) {
+        return dropped(Heard::Ended(Ending::Good(bits % page_word::WIDE)), reading);
+    }
+    dropped(Heard::Ended(Ending::Check), reading)
+}
+
+// The bits with one more, after a clock. The newest bit is the highest, so after 64 the first is the lowest.
+fn with_bit(k: u32, bits: u64) -> u64
+    ensures { λ r. ⌜ r ≡ bits / 2 + cond (eqb k 1) (2 ^ 63) 0 ⌝ }
+{
+    if k == 1 {
+        return bits / 2 + 0x8000000000000000;
+    }
+    bits / 2
+}
+
+// An edge so many positions after the last one of an attempt: in the delimiter, among clocks and bits, or at the end.
+fn step_on(mode: LineMode, at: u32, k: u32, bits: u64, reading: u32) -> Step
+    requires { ⌜ (1 ≤ k) × (k ≤ 4) ⌝ }
+    ensures { λ r. ⌜ r ≡ goesOn mode at bits reading (Positions k) ⌝ }
+{
+    if at <= 26 {
+        if spans(line_page::start(mode), at, k) {
+            return moved(at + k, bits, reading);
         }
         return dropped(Heard::Ended(Ending::Gap), reading);
     }
-    if pattern_asks(slow, at, k) {
-        return arrive(at + k, bits, reading);
+    if at <= 154 {
+        if at % 2 == 0 {
+            if k == 1 {
+                return moved(at + 1, bits, reading);
+            }
+            return dropped(Heard::Ended(Ending::Gap), reading);
+        }
+        if k <= 2 {
+            return moved(at + k, with_bit(k, bits), reading);
+        }
+        return dropped(Heard::Ended(Ending::Gap), reading);
+    }
+    if at == 155 {
+        if k == 2 {
+            return whole(bits, reading);
+        }
+        return dropped(Heard::Ended(Ending::Gap), reading);
     }
     dropped(Heard::Ended(Ending::Gap), reading)
 }
 
-// A further edge of an attempt.
-fn go_on(mode: LineMode, at: u32, last: u32, bits: u64, reading: u32) -> Step
-    ensures { λ r. ⌜ r ≡ goesOn (mode .slow) at bits reading (judgementOf mode (timeBetween reading last)) ⌝ }
+// A further edge of an attempt. Captures and devices share this body: small as it is, the compiler lays it into both their loops.
+pub fn go_on(mode: LineMode, at: u32, last: u32, bits: u64, reading: u32) -> Step
+    ensures { λ r. ⌜ r ≡ edgeOf mode (Open at last bits) reading ⌝ }
 {
     match mode.judgement(time_between(reading, last)) {
-        Judgement::Positions(k) => step_on(mode.slow, at, k, bits, reading),
+        Judgement::Positions(k) => step_on(mode, at, k, bits, reading),
         Judgement::Quiet => opened(Heard::Ended(Ending::Cut), reading),
         Judgement::Unfit => dropped(Heard::Ended(Ending::Gap), reading),
     }
 }
 
-// An edge after an attempt has ended. Whoever walks over dropped edges has no need to look at the reader's kind at each.
+// An edge after an attempt has ended.
 pub fn drop_on(mode: LineMode, last: u32, reading: u32) -> Step
-    ensures { λ r. ⌜ r ≡ dropsOn reading (judgementOf mode (timeBetween reading last)) ⌝ }
+    ensures { λ r. ⌜ r ≡ edgeOf mode (Dropping last) reading ⌝ }
 {
     match mode.judgement(time_between(reading, last)) {
         Judgement::Positions(k) => dropped(Heard::Nothing, reading),

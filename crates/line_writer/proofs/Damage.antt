@@ -12,7 +12,10 @@ use borrow.Author.Tests.{ltb-true, ltb-false, eqb-true, eqb-false, ne-eqb}
 use Rattle.page_check_bits.proofs.BinaryNumbers.{bit}
 use Rattle.page_check_bits.proofs.Polynomials.{xor-self}
 use Rattle.page_check_bits.proofs.Strength.{differing, AgreeOutside, Apart, bitAt, strength}
-use Rattle.line_mode.specs.Delimiters.{among, hsmDelimiter, lsmDelimiter}
+use Rattle.page_word.specs.Lists.{among}
+use Rattle.line_mode.specs.declared.modes.LineMode.{LineMode}
+use Rattle.line_page.specs.Pattern.{delimiterOf}
+use Rattle.line_page.proofs.Positions.{by-delimiter}
 use Rattle.line_writer.specs.Transitions.{hasTransition, positionsTo, transitions, sentBits}
 use Rattle.line_writer.proofs.PagePattern.{in-delimiter, at-clock, at-bit, at-156}
 use Rattle.line_writer.proofs.SentBits.{sent-length}
@@ -26,15 +29,15 @@ abbrev pub changed : List ℕ → List ℕ → ℕ
 changed l r = differing 158 (hasAt l) (hasAt r)
 
 -- A list is the transitions of no page of this mode but, perhaps, of w's.
-abbrev pub NoOther : Bool → ℕ → List ℕ → Type 0
-NoOther slow w l = (v : ℕ) → v < 2 ^ 48 → l ≡ transitions slow v → v ≡ w
+abbrev pub NoOther : LineMode → ℕ → List ℕ → Type 0
+NoOther m w l = (v : ℕ) → v < 2 ^ 48 → l ≡ transitions m v → v ≡ w
 
 -- What has become of a page's transitions is no other page: where up to three positions have changed, where an odd number of them has,
 -- and where none has but some of 32 neighbouring positions, which hold sixteen bits.
-pub record Damage (slow : Bool) (w : ℕ) (l : List ℕ) : Type 0 where
-  pub few : changed (transitions slow w) l ≤ 3 → NoOther slow w l
-  pub odd : changed (transitions slow w) l % 2 ≡ 1 → NoOther slow w l
-  pub near : (start : ℕ) → AgreeOutside start 32 (hasAt (transitions slow w)) (hasAt l) → NoOther slow w l
+pub record Damage (m : LineMode) (w : ℕ) (l : List ℕ) : Type 0 where
+  pub few : changed (transitions m w) l ≤ 3 → NoOther m w l
+  pub odd : changed (transitions m w) l % 2 ≡ 1 → NoOther m w l
+  pub near : (start : ℕ) → AgreeOutside start 32 (hasAt (transitions m w)) (hasAt l) → NoOther m w l
 
 -- In the list of the positions where a test holds are just those from 1 on where it holds.
 among-append : (p : ℕ) (l r : List ℕ) → among p (l ++ r) ≡ (among p l || among p r)
@@ -82,30 +85,26 @@ module _ (test : ℕ → Bool) where
       by earlier false e = let o = eqb-false p (suc n) e in among-before n p o ∙ earlier (omega arith)
 
 -- A page at its positions: the delimiter, the clocks and the end are the same in all pages of a mode, and at 28 + 2·k stands bit k.
-module _ (slow : Bool) (w : ℕ) where
-  at-position : (p : ℕ) → 0 < p → p ≤ 157 → hasAt (transitions slow w) p ≡ hasTransition slow (sentBits w) p
+module _ (m : LineMode) (w : ℕ) where
+  at-position : (p : ℕ) → 0 < p → p ≤ 157 → hasAt (transitions m w) p ≡ hasTransition m (sentBits w) p
   unfolding transitions
-  at-position p h l = within (hasTransition slow (sentBits w)) 157 p h l
+  at-position p h l = within (hasTransition m (sentBits w)) 157 p h l
 
-  at-start : (p : ℕ) → p ≤ 26 → hasAt (transitions slow w) p ≡ among p (cond slow lsmDelimiter hsmDelimiter)
+  at-start : (p : ℕ) → p ≤ 26 → hasAt (transitions m w) p ≡ among p (delimiterOf m)
   unfolding transitions
-  at-start zero h = none-at-zero (hasTransition slow (sentBits w)) 157 ∙ sym (by slow)
-    where
-      by : (t : Bool) → among 0 (cond t lsmDelimiter hsmDelimiter) ≡ false
-      by true = refl
-      by false = refl
-  at-start (suc p) h = at-position (suc p) (omega arith) (omega arith) ∙ in-delimiter slow (sentBits w) (suc p) h
+  at-start zero h = none-at-zero (hasTransition m (sentBits w)) 157 ∙ sym (by-delimiter (λ n. among 0 (delimiterOf n) ≡ false) (λ s t q. refl) (λ s t q. refl) m)
+  at-start (suc p) h = at-position (suc p) (omega arith) (omega arith) ∙ in-delimiter m (sentBits w) (suc p) h
 
-  at-odd : (p : ℕ) → 26 < p → p ≤ 157 → p % 2 ≡ 1 → hasAt (transitions slow w) p ≡ true
-  at-odd p h l o = at-position p (omega arith) l ∙ at-clock slow (sentBits w) p h l o
+  at-odd : (p : ℕ) → 26 < p → p ≤ 157 → p % 2 ≡ 1 → hasAt (transitions m w) p ≡ true
+  at-odd p h l o = at-position p (omega arith) l ∙ at-clock m (sentBits w) p h l o
 
-  at-last-even : hasAt (transitions slow w) 156 ≡ false
-  at-last-even = at-position 156 (omega arith) (omega arith) ∙ at-156 slow (sentBits w) 156 (omega arith) (omega arith) (λ o. omega arith)
+  at-last-even : hasAt (transitions m w) 156 ≡ false
+  at-last-even = at-position 156 (omega arith) (omega arith) ∙ at-156 m (sentBits w) 156 (omega arith) (omega arith) (λ o. omega arith)
 
-  at-place : (k : ℕ) → k < 64 → hasAt (transitions slow w) (28 + 2 * k) ≡ bitAt (sentBits w) k
+  at-place : (k : ℕ) → k < 64 → hasAt (transitions m w) (28 + 2 * k) ≡ bitAt (sentBits w) k
   at-place k h =
       at-position (28 + 2 * k) (omega arith) (omega arith)
-      ∙ at-bit slow (sentBits w) (28 + 2 * k) (omega arith) (omega arith) (λ o. omega arith)
+      ∙ at-bit m (sentBits w) (28 + 2 * k) (omega arith) (omega arith) (λ o. omega arith)
       ∙ ap (bitAt (sentBits w)) (let e : (28 + 2 * k - 28) / 2 ≡ k = omega arith in e)
 
 -- Where two patterns agree nothing is counted.
@@ -120,25 +119,25 @@ module _ (f g : ℕ → Bool) where
   all-same (suc n) h = one-same n (h n (omega arith)) ∙ all-same n (λ k l. h k (omega arith))
 
 -- Two pages of one mode.
-module _ (slow : Bool) (w v : ℕ) where
+module _ (m : LineMode) (w v : ℕ) where
   abbrev one : ℕ → Bool
-  one = hasAt (transitions slow w)
+  one = hasAt (transitions m w)
 
   abbrev two : ℕ → Bool
-  two = hasAt (transitions slow v)
+  two = hasAt (transitions m v)
 
   same-start : (p : ℕ) → p < 27 → one p ≡ two p
-  same-start p h = at-start slow w p (omega arith) ∙ sym (at-start slow v p (omega arith))
+  same-start p h = at-start m w p (omega arith) ∙ sym (at-start m v p (omega arith))
 
   same-odd : (p : ℕ) → 26 < p → p ≤ 157 → p % 2 ≡ 1 → one p ≡ two p
-  same-odd p h l o = at-odd slow w p h l o ∙ sym (at-odd slow v p h l o)
+  same-odd p h l o = at-odd m w p h l o ∙ sym (at-odd m v p h l o)
 
   pairs : (k : ℕ) → k ≤ 64 → differing (27 + 2 * k) one two ≡ differing k (bitAt (sentBits w)) (bitAt (sentBits v))
   unfolding differing
   pairs zero h = all-same one two 27 same-start
   pairs (suc k) h =
       ap (λ (n : ℕ). differing n one two) (let e : 27 + 2 * suc k ≡ suc (28 + 2 * k) = omega arith in e)
-      ∙ ap₂ (λ (a b : Bool). bit (xor a b) + differing (28 + 2 * k) one two) (at-place slow w k h) (at-place slow v k h)
+      ∙ ap₂ (λ (a b : Bool). bit (xor a b) + differing (28 + 2 * k) one two) (at-place m w k h) (at-place m v k h)
       ∙ ap (λ (n : ℕ). bit (xor (bitAt (sentBits w) k) (bitAt (sentBits v) k)) + n) (clock ∙ pairs k (omega arith))
     where
       clock : differing (28 + 2 * k) one two ≡ differing (27 + 2 * k) one two
@@ -150,7 +149,7 @@ module _ (slow : Bool) (w v : ℕ) where
   counted : differing 158 one two ≡ differing 64 (bitAt (sentBits w)) (bitAt (sentBits v))
   counted =
       one-same one two 157 (same-odd 157 (omega arith) (omega arith) refl)
-      ∙ one-same one two 156 (at-last-even slow w ∙ sym (at-last-even slow v))
+      ∙ one-same one two 156 (at-last-even m w ∙ sym (at-last-even m v))
       ∙ one-same one two 155 (same-odd 155 (omega arith) (omega arith) refl)
       ∙ pairs 64 (omega arith)
 
@@ -161,7 +160,7 @@ module _ (slow : Bool) (w v : ℕ) where
       by : (t : Bool) → ltb k 64 ≡ t → bitAt (sentBits w) k ≡ bitAt (sentBits v) k
       by true e =
           let l = ltb-true k 64 e in
-          sym (at-place slow w k l) ∙ h (28 + 2 * k) (λ a b. i (omega arith) (omega arith)) ∙ at-place slow v k l
+          sym (at-place m w k l) ∙ h (28 + 2 * k) (λ a b. i (omega arith) (omega arith)) ∙ at-place m v k l
       by false e =
           let l = ltb-false k 64 e in
           List·getD-eq-default (sentBits w) false (omega (arith, sent-length w))
@@ -173,28 +172,28 @@ module _ (w v : ℕ) (fits : w < 2 ^ 48) (fits′ : v < 2 ^ 48) (other : w ≡ v
   unfolding sentBits
   bits-apart = strength .words w v fits fits′ other
 
-  pub pages-apart : (slow : Bool) → Apart 158 32 (hasAt (transitions slow w)) (hasAt (transitions slow v))
-  pages-apart slow =
+  pub pages-apart : (m : LineMode) → Apart 158 32 (hasAt (transitions m w)) (hasAt (transitions m v))
+  pages-apart m =
       record {
-        four = omega (arith, counted slow w v, bits-apart .four);
-        even = ap (λ (n : ℕ). n % 2) (counted slow w v) ∙ bits-apart .even;
-        spread = λ start h. bits-apart .spread ((start - 27) / 2) (agreed slow w v start h);
+        four = omega (arith, counted m w v, bits-apart .four);
+        even = ap (λ (n : ℕ). n % 2) (counted m w v) ∙ bits-apart .even;
+        spread = λ start h. bits-apart .spread ((start - 27) / 2) (agreed m w v start h);
       }
 
 -- What is not apart from a page is no other page.
-not-apart : (slow : Bool) (w : ℕ) (l : List ℕ) → w < 2 ^ 48 → (Apart 158 32 (hasAt (transitions slow w)) (hasAt l) → ⊥) → NoOther slow w l
-not-apart slow w l fits h v fits′ e = by (eqb v w) refl
+not-apart : (m : LineMode) (w : ℕ) (l : List ℕ) → w < 2 ^ 48 → (Apart 158 32 (hasAt (transitions m w)) (hasAt l) → ⊥) → NoOther m w l
+not-apart m w l fits h v fits′ e = by (eqb v w) refl
   where
     by : (t : Bool) → eqb v w ≡ t → v ≡ w
     by true s = eqb-true v w s
     by false s =
-        absurd (h (subst (λ (r : List ℕ). Apart 158 32 (hasAt (transitions slow w)) (hasAt r)) (sym e)
-        (pages-apart w v fits fits′ (λ o. eqb-false v w s (sym o)) slow)))
+        absurd (h (subst (λ (r : List ℕ). Apart 158 32 (hasAt (transitions m w)) (hasAt r)) (sym e)
+        (pages-apart w v fits fits′ (λ o. eqb-false v w s (sym o)) m)))
 
-pub damage : (slow : Bool) (w : ℕ) (l : List ℕ) → w < 2 ^ 48 → Damage slow w l
-damage slow w l fits =
+pub damage : (m : LineMode) (w : ℕ) (l : List ℕ) → w < 2 ^ 48 → Damage m w l
+damage m w l fits =
     record {
-      few = λ h. not-apart slow w l fits (λ a. omega (arith, a .four));
-      odd = λ h. not-apart slow w l fits (λ a. omega (arith, a .even));
-      near = λ start h. not-apart slow w l fits (λ a. a .spread start h);
+      few = λ h. not-apart m w l fits (λ a. omega (arith, a .four));
+      odd = λ h. not-apart m w l fits (λ a. omega (arith, a .even));
+      near = λ start h. not-apart m w l fits (λ a. a .spread start h);
     }

@@ -14,6 +14,9 @@ use Rattle.page_word.specs.Word.{bitsOf}
 use Rattle.page_check_bits.specs.CheckBits.{checkBits, checkList}
 use Rattle.page_check_bits.proofs.BinaryNumbers.{bit, odd-bit, digitsOf, trues, trues-append}
 use Rattle.page_check_bits.proofs.CheckTheorem.{checkList-digits, check-below}
+use Rattle.line_mode.specs.declared.modes.LineMode.{LineMode}
+use Rattle.line_page.specs.Pattern.{standsAt}
+use Rattle.line_page.proofs.Positions.{by-delimiter}
 use Rattle.line_writer.specs.Transitions.{hasTransition, positionsTo, transitions, sentBits}
 use Rattle.line_writer.proofs.PagePattern.{at-clock, at-bit, at-156}
 use Rattle.line_writer.proofs.SentBits.{sent-length}
@@ -27,66 +30,66 @@ count-more test n = by (test (suc n))
     by true = length-append (positionsTo test n) (suc n ∷ [])
     by false = sym (add-zero (length (positionsTo test n)))
 
-abbrev delimiterCount : Bool → ℕ
-delimiterCount slow = cond slow 20 15
+abbrev delimiterCount : LineMode → ℕ
+delimiterCount m = cond (m .slow) 20 15
 
-delimiter-count : (slow : Bool) (bits : List Bool) → length (positionsTo (hasTransition slow bits) 26) ≡ delimiterCount slow
-unfolding positionsTo hasTransition
-delimiter-count true bits = refl
-delimiter-count false bits = refl
+delimiter-count : (m : LineMode) (bits : List Bool) → length (positionsTo (hasTransition m bits) 26) ≡ delimiterCount m
+unfolding positionsTo hasTransition standsAt
+delimiter-count m bits =
+    by-delimiter (λ n. length (positionsTo (hasTransition n bits) 26) ≡ delimiterCount n) (λ s t q. refl) (λ s t q. refl) m
 
 -- A clock and a bit more.
-pair-count : (slow : Bool) (bits : List Bool) (k : ℕ) → k < 64
-    → length (positionsTo (hasTransition slow bits) (28 + 2 * k)) ≡ length (positionsTo (hasTransition slow bits) (26 + 2 * k)) + (1 + bit (getD bits k false))
-pair-count slow bits k h =
+pair-count : (m : LineMode) (bits : List Bool) (k : ℕ) → k < 64
+    → length (positionsTo (hasTransition m bits) (28 + 2 * k)) ≡ length (positionsTo (hasTransition m bits) (26 + 2 * k)) + (1 + bit (getD bits k false))
+pair-count m bits k h =
     ap (λ (n : ℕ). length (positionsTo test n)) (let e : 28 + 2 * k ≡ suc (suc (26 + 2 * k)) = omega arith in e)
     ∙ count-more test (suc (26 + 2 * k))
     ∙ ap₂ _+_ (count-more test (26 + 2 * k) ∙ ap (λ (t : Bool). length (positionsTo test (26 + 2 * k)) + bit t) clock) (ap bit value)
     ∙ add-assoc (length (positionsTo test (26 + 2 * k))) 1 (bit (getD bits k false))
   where
     test : ℕ → Bool
-    test = hasTransition slow bits
+    test = hasTransition m bits
 
-    clock : hasTransition slow bits (suc (26 + 2 * k)) ≡ true
-    clock = at-clock slow bits (suc (26 + 2 * k)) (omega arith) (omega arith) (omega arith)
+    clock : hasTransition m bits (suc (26 + 2 * k)) ≡ true
+    clock = at-clock m bits (suc (26 + 2 * k)) (omega arith) (omega arith) (omega arith)
 
-    value : hasTransition slow bits (suc (suc (26 + 2 * k))) ≡ getD bits k false
+    value : hasTransition m bits (suc (suc (26 + 2 * k))) ≡ getD bits k false
     value =
-        at-bit slow bits (suc (suc (26 + 2 * k))) (omega arith) (omega arith) (λ o. omega arith)
+        at-bit m bits (suc (suc (26 + 2 * k))) (omega arith) (omega arith) (λ o. omega arith)
         ∙ ap (λ (j : ℕ). getD bits j false) (let e : (suc (suc (26 + 2 * k)) - 28) / 2 ≡ k = omega arith in e)
 
-bits-count : (slow : Bool) (bits : List Bool) → length bits ≡ 64 → (k : ℕ) → k ≤ 64
-    → length (positionsTo (hasTransition slow bits) (26 + 2 * k)) ≡ delimiterCount slow + (k + trues (take k bits))
-bits-count slow bits h zero l = delimiter-count slow bits ∙ sym (add-zero (delimiterCount slow))
-bits-count slow bits h (suc k) l =
-    ap (λ (n : ℕ). length (positionsTo (hasTransition slow bits) n)) (let e : 26 + 2 * suc k ≡ 28 + 2 * k = omega arith in e)
-    ∙ pair-count slow bits k l
-    ∙ ap (λ (n : ℕ). n + (1 + bit (getD bits k false))) (bits-count slow bits h k (omega arith))
+bits-count : (m : LineMode) (bits : List Bool) → length bits ≡ 64 → (k : ℕ) → k ≤ 64
+    → length (positionsTo (hasTransition m bits) (26 + 2 * k)) ≡ delimiterCount m + (k + trues (take k bits))
+bits-count m bits h zero l = delimiter-count m bits ∙ sym (add-zero (delimiterCount m))
+bits-count m bits h (suc k) l =
+    ap (λ (n : ℕ). length (positionsTo (hasTransition m bits) n)) (let e : 26 + 2 * suc k ≡ 28 + 2 * k = omega arith in e)
+    ∙ pair-count m bits k l
+    ∙ ap (λ (n : ℕ). n + (1 + bit (getD bits k false))) (bits-count m bits h k (omega arith))
     ∙ omega (arith, more)
   where
     more : trues (take (suc k) bits) ≡ trues (take k bits) + (bit (getD bits k false) + 0)
     more = ap trues (take-suc bits k false (omega arith)) ∙ trues-append (take k bits) (getD bits k false ∷ [])
 
 -- The end: 155 and 157.
-end-count : (slow : Bool) (bits : List Bool)
-    → length (positionsTo (hasTransition slow bits) 157) ≡ length (positionsTo (hasTransition slow bits) 154) + 2
-end-count slow bits =
+end-count : (m : LineMode) (bits : List Bool)
+    → length (positionsTo (hasTransition m bits) 157) ≡ length (positionsTo (hasTransition m bits) 154) + 2
+end-count m bits =
     count-more test 156
     ∙ ap₂ (λ (n : ℕ) (t : Bool). n + bit t) (count-more test 155
     ∙ ap₂ (λ (n : ℕ) (t : Bool). n + bit t) (count-more test 154 ∙ ap (λ (t : Bool). length (positionsTo test 154) + bit t) at155) at156) at157
     ∙ omega arith
   where
     test : ℕ → Bool
-    test = hasTransition slow bits
+    test = hasTransition m bits
 
-    at155 : hasTransition slow bits 155 ≡ true
-    at155 = at-clock slow bits 155 (omega arith) (omega arith) refl
+    at155 : hasTransition m bits 155 ≡ true
+    at155 = at-clock m bits 155 (omega arith) (omega arith) refl
 
-    at156 : hasTransition slow bits 156 ≡ false
-    at156 = at-156 slow bits 156 (omega arith) (omega arith) (λ o. omega arith)
+    at156 : hasTransition m bits 156 ≡ false
+    at156 = at-156 m bits 156 (omega arith) (omega arith) (λ o. omega arith)
 
-    at157 : hasTransition slow bits 157 ≡ true
-    at157 = at-clock slow bits 157 (omega arith) (omega arith) refl
+    at157 : hasTransition m bits 157 ≡ true
+    at157 = at-clock m bits 157 (omega arith) (omega arith) refl
 
 -- The ones of a word's bits, lowest first, and of a number's digits, highest first.
 ones-zero : ones 0 ≡ 0
@@ -118,25 +121,25 @@ sent-ones w h =
     (ap trues (checkList-digits w) ∙ ones-digits 16 (checkBits w) ∙ ap ones (mod-eq-of-lt (check-below w)))
 
 -- The number of a page's transitions.
-pub edge-count : (slow : Bool) (w : ℕ) → w < 2 ^ 48 → length (transitions slow w) ≡ ones w + ones (checkBits w) + cond slow 86 81
+pub edge-count : (m : LineMode) (w : ℕ) → w < 2 ^ 48 → length (transitions m w) ≡ ones w + ones (checkBits w) + cond (m .slow) 86 81
 unfolding transitions
-edge-count slow w h =
-    end-count slow (sentBits w)
-    ∙ ap (λ (n : ℕ). n + 2) (bits-count slow (sentBits w) (sent-length w) 64 (omega arith)
-    ∙ ap (λ (n : ℕ). delimiterCount slow + (64 + n)) (ap trues (take-all 64 (sentBits w) (omega (arith, sent-length w))) ∙ sent-ones w h))
-    ∙ sums slow
+edge-count m w h =
+    end-count m (sentBits w)
+    ∙ ap (λ (n : ℕ). n + 2) (bits-count m (sentBits w) (sent-length w) 64 (omega arith)
+    ∙ ap (λ (n : ℕ). delimiterCount m + (64 + n)) (ap trues (take-all 64 (sentBits w) (omega (arith, sent-length w))) ∙ sent-ones w h))
+    ∙ sums (m .slow)
   where
-    sums : (t : Bool) → delimiterCount t + (64 + (ones w + ones (checkBits w))) + 2 ≡ ones w + ones (checkBits w) + cond t 86 81
+    sums : (t : Bool) → cond t 20 15 + (64 + (ones w + ones (checkBits w))) + 2 ≡ ones w + ones (checkBits w) + cond t 86 81
     sums true = omega arith
     sums false = omega arith
 
 -- No page has more than 150.
-pub edge-most : (slow : Bool) (w : ℕ) → w < 2 ^ 48 → length (transitions slow w) ≤ 150
-edge-most slow w h =
+pub edge-most : (m : LineMode) (w : ℕ) → w < 2 ^ 48 → length (transitions m w) ≤ 150
+edge-most m w h =
     let a = ones-le 48 w h in
     let b = ones-le 16 (checkBits w) (check-below w) in
-    let c = most slow in
-    let e = edge-count slow w h in omega arith
+    let c = most (m .slow) in
+    let e = edge-count m w h in omega arith
   where
     most : (t : Bool) → cond t 86 81 ≤ 86
     most true = omega arith

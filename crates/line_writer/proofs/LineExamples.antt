@@ -6,6 +6,7 @@ use lib.ListN.{getD}
 use Rattle.page_check_bits.specs.CheckBits.{checkList, remainder}
 use Rattle.line_mode.specs.Clock.{timeBetween}
 use Rattle.line_mode.specs.Modes.{hsmMode, lsmMode}
+use Rattle.line_page.specs.Pattern.{isClock, isBit, standsAt}
 use Rattle.line_writer.specs.Transitions.{sentBits, hasTransition, positionsTo, transitions, readings, edgeCount}
 
 -- "P5 readings 4294967290, 24: time 30. P6 zero page, HSM: 81 edges over 4680 ns. P7 LSM: 86 over 124 800. P8 2^47, HSM: 85 edges."
@@ -18,5 +19,5 @@ pub record LineTable : Type 0 where
   pub p8 : edgeCount hsmMode (2 ^ 47) ≡ 85
 
 pub line-table : LineTable
-unfolding edgeCount readings transitions positionsTo hasTransition sentBits checkList remainder xor
+unfolding edgeCount readings transitions positionsTo hasTransition standsAt isClock isBit sentBits checkList remainder xor
 line-table = record { p5 = refl; p6-edges = refl; p6-last = refl; p7-edges = refl; p7-last = refl; p8 = refl }

@@ -23,50 +23,50 @@ more-no test n h = rw h
 
 -- Later positions only add.
 pub count-grows : (test : ℕ → Bool) (n k : ℕ) → length (positionsTo test n) ≤ length (positionsTo test (n + k))
-count-grows test n zero = subst (λ (m : ℕ). length (positionsTo test n) ≤ length (positionsTo test m)) (sym (add-zero n)) (le-refl (length (positionsTo test n)))
+count-grows test n zero = subst (λ (k : ℕ). length (positionsTo test n) ≤ length (positionsTo test k)) (sym (add-zero n)) (le-refl (length (positionsTo test n)))
 count-grows test n (suc k) =
     let h = count-grows test n k in
     let e : length (positionsTo test (n + suc k)) ≡ length (positionsTo test (n + k)) + bit (test (suc (n + k)))
-    = ap (λ (m : ℕ). length (positionsTo test m)) (add-suc n k) ∙ count-more test (n + k) in omega arith
+    = ap (λ (k : ℕ). length (positionsTo test k)) (add-suc n k) ∙ count-more test (n + k) in omega arith
 
 count-to-end : (test : ℕ → Bool) (n : ℕ) → n ≤ 157 → length (positionsTo test n) ≤ length (positionsTo test 157)
 count-to-end test n h =
-    subst (λ (m : ℕ). length (positionsTo test n) ≤ length (positionsTo test m)) (let e : n + (157 - n) ≡ 157 = omega arith in e)
+    subst (λ (k : ℕ). length (positionsTo test n) ≤ length (positionsTo test k)) (let e : n + (157 - n) ≡ 157 = omega arith in e)
     (count-grows test n (157 - n))
 
 -- What holds whenever the loop's test is reached: so many positions are passed.
-pub record Writing (slow : Bool) (spacing word first : ℕ) (before list : List ℕ) (clock count passed : ℕ) : Type 0 where
+pub record Writing (m : LineMode) (word first : ℕ) (before list : List ℕ) (clock count passed : ℕ) : Type 0 where
   pub most : passed ≤ 157
-  pub time : clock ≡ (first + passed * spacing) % 2 ^ 32
-  pub number : count ≡ length (positionsTo (hasTransition slow (sentBits word)) passed)
-  pub contents : list ≡ map (readingAt spacing first) (positionsTo (hasTransition slow (sentBits word)) passed) ++ drop count before
+  pub time : clock ≡ (first + passed * m .spacing) % 2 ^ 32
+  pub number : count ≡ length (positionsTo (hasTransition m (sentBits word)) passed)
+  pub contents : list ≡ map (readingAt (m .spacing) first) (positionsTo (hasTransition m (sentBits word)) passed) ++ drop count before
 
-pub start : (slow : Bool) (spacing word first : ℕ) (before : List ℕ) → first < 2 ^ 32 → Writing slow spacing word first before before first 0 0
+pub start : (m : LineMode) (word first : ℕ) (before : List ℕ) → first < 2 ^ 32 → Writing m word first before before first 0 0
 unfolding positionsTo
-start slow spacing word first before h =
-    record { most = omega arith; time = sym (ap (λ (x : ℕ). (first + x) % 2 ^ 32) (zero-mul spacing) ∙ omega arith); number = refl; contents = refl }
+start m word first before h =
+    record { most = omega arith; time = sym (ap (λ (x : ℕ). (first + x) % 2 ^ 32) (zero-mul (m .spacing)) ∙ omega arith); number = refl; contents = refl }
 
 -- The list keeps its length.
-pub same-long : (slow : Bool) (spacing word first : ℕ) (before list : List ℕ) (clock count passed : ℕ)
-    → Writing slow spacing word first before list clock count passed
-    → length (positionsTo (hasTransition slow (sentBits word)) 157) ≤ length before → length list ≡ length before
-same-long slow spacing word first before list clock count passed g enough =
-    let grows = count-to-end (hasTransition slow (sentBits word)) passed (g .most) in
+pub same-long : (m : LineMode) (word first : ℕ) (before list : List ℕ) (clock count passed : ℕ)
+    → Writing m word first before list clock count passed
+    → length (positionsTo (hasTransition m (sentBits word)) 157) ≤ length before → length list ≡ length before
+same-long m word first before list clock count passed g enough =
+    let grows = count-to-end (hasTransition m (sentBits word)) passed (g .most) in
     let n = g .number in
-    let head = map (readingAt spacing first) (positionsTo (hasTransition slow (sentBits word)) passed) in
-    let l : length (map (readingAt spacing first) (positionsTo (hasTransition slow (sentBits word)) passed)) ≡ count
-    = length-map (positionsTo (hasTransition slow (sentBits word)) passed) (readingAt spacing first) ∙ sym n in
-    let all = ap length (g .contents) ∙ length-append (map (readingAt spacing first) (positionsTo (hasTransition slow (sentBits word)) passed)) (drop count before) in
+    let head = map (readingAt (m .spacing) first) (positionsTo (hasTransition m (sentBits word)) passed) in
+    let l : length (map (readingAt (m .spacing) first) (positionsTo (hasTransition m (sentBits word)) passed)) ≡ count
+    = length-map (positionsTo (hasTransition m (sentBits word)) passed) (readingAt (m .spacing) first) ∙ sym n in
+    let all = ap length (g .contents) ∙ length-append (map (readingAt (m .spacing) first) (positionsTo (hasTransition m (sentBits word)) passed)) (drop count before) in
     let d = length-drop count before in omega arith
 
-module _ (slow : Bool) (spacing word first : ℕ) (before list : List ℕ) (clock count passed : ℕ)
-    (g : Writing slow spacing word first before list clock count passed) (h : passed < 157)
+module _ (m : LineMode) (word first : ℕ) (before list : List ℕ) (clock count passed : ℕ)
+    (g : Writing m word first before list clock count passed) (h : passed < 157)
   where
     test : ℕ → Bool
-    test = hasTransition slow (sentBits word)
+    test = hasTransition m (sentBits word)
 
     reading : ℕ → ℕ
-    reading = readingAt spacing first
+    reading = readingAt (m .spacing) first
 
     head : List ℕ
     head = map reading (positionsTo test passed)
@@ -75,19 +75,19 @@ module _ (slow : Bool) (spacing word first : ℕ) (before list : List ℕ) (cloc
     unfolding head test reading
     head-length = length-map (positionsTo test passed) reading ∙ sym (g .number)
 
-    time-more : (clock + spacing) % 2 ^ 32 ≡ (first + (passed + 1) * spacing) % 2 ^ 32
+    time-more : (clock + m .spacing) % 2 ^ 32 ≡ (first + (passed + 1) * m .spacing) % 2 ^ 32
     time-more =
-        ap (λ (x : ℕ). (x + spacing) % 2 ^ 32) (g .time)
-        ∙ (let e : ((first + passed * spacing) % 2 ^ 32 + spacing) % 2 ^ 32 ≡ (first + (passed * spacing + spacing)) % 2 ^ 32 = omega arith in e)
-        ∙ ap (λ (x : ℕ). (first + x) % 2 ^ 32) (sym (suc-mul passed spacing) ∙ ap (λ (n : ℕ). n * spacing) (sym (add-one passed)))
+        ap (λ (x : ℕ). (x + m .spacing) % 2 ^ 32) (g .time)
+        ∙ (let e : ((first + passed * m .spacing) % 2 ^ 32 + m .spacing) % 2 ^ 32 ≡ (first + (passed * m .spacing + m .spacing)) % 2 ^ 32 = omega arith in e)
+        ∙ ap (λ (x : ℕ). (first + x) % 2 ^ 32) (sym (suc-mul passed (m .spacing)) ∙ ap (λ (n : ℕ). n * m .spacing) (sym (add-one passed)))
 
     -- The next position's reading is the clock.
     now-reading : reading (suc passed) ≡ clock
     unfolding reading
-    now-reading = ap (λ (n : ℕ). (first + n * spacing) % 2 ^ 32) (let e : suc passed - 1 ≡ passed = omega arith in e) ∙ sym (g .time)
+    now-reading = ap (λ (n : ℕ). (first + n * m .spacing) % 2 ^ 32) (let e : suc passed - 1 ≡ passed = omega arith in e) ∙ sym (g .time)
 
     -- A transition that is not yet written has an entry to go to.
-    pub room : hasTransition slow (sentBits word) (passed + 1) ≡ true → length (positionsTo (hasTransition slow (sentBits word)) 157) ≤ length before
+    pub room : hasTransition m (sentBits word) (passed + 1) ≡ true → length (positionsTo (hasTransition m (sentBits word)) 157) ≤ length before
         → count < length before
     unfolding test
     room there enough =
@@ -96,8 +96,8 @@ module _ (slow : Bool) (spacing word first : ℕ) (before list : List ℕ) (cloc
         let grows = count-to-end test (suc passed) h in
         let n = g .number in omega arith
 
-    pub turn-yes : hasTransition slow (sentBits word) (passed + 1) ≡ true → count < length before
-        → Writing slow spacing word first before (set list count clock) ((clock + spacing) % 2 ^ 32) (count + 1) (passed + 1)
+    pub turn-yes : hasTransition m (sentBits word) (passed + 1) ≡ true → count < length before
+        → Writing m word first before (set list count clock) ((clock + m .spacing) % 2 ^ 32) (count + 1) (passed + 1)
     unfolding test reading head
     turn-yes there fits =
         record { most = omega arith; time = time-more; number = number-more; contents = contents-more }
@@ -116,8 +116,8 @@ module _ (slow : Bool) (spacing word first : ℕ) (before list : List ℕ) (cloc
             ∙ sym (append-assoc head (reading (suc passed) ∷ []) (drop (count + 1) before))
             ∙ ap (λ (l : List ℕ). l ++ drop (count + 1) before) (sym (map-append reading (positionsTo test passed) (suc passed ∷ [])) ∙ ap (map reading) (sym one-more))
 
-    pub turn-no : hasTransition slow (sentBits word) (passed + 1) ≡ false
-        → Writing slow spacing word first before list ((clock + spacing) % 2 ^ 32) count (passed + 1)
+    pub turn-no : hasTransition m (sentBits word) (passed + 1) ≡ false
+        → Writing m word first before list ((clock + m .spacing) % 2 ^ 32) count (passed + 1)
     unfolding test reading head
     turn-no none =
         record { most = omega arith; time = time-more; number = g .number ∙ ap length (sym same); contents = g .contents ∙ ap (λ (l : List ℕ). map reading l ++ drop count before) (sym same) }
@@ -127,13 +127,13 @@ module _ (slow : Bool) (spacing word first : ℕ) (before list : List ℕ) (cloc
 
 -- After 157 positions the page is written.
 pub finish : (m : LineMode) (word first : ℕ) (before list : List ℕ) (clock count passed : ℕ)
-    → Writing (m .slow) (m .spacing) word first before list clock count passed → 157 ≤ passed
+    → Writing m word first before list clock count passed → 157 ≤ passed
     → list ≡ readings m word first ++ drop (edgeCount m word) before
 unfolding readings edgeCount transitions
 finish m word first before list clock count passed g h =
     g .contents
-    ∙ ap₂ (λ (n k : ℕ). map (readingAt (m .spacing) first) (positionsTo (hasTransition (m .slow) (sentBits word)) n) ++ drop k before) all
-    (g .number ∙ ap (λ (n : ℕ). length (positionsTo (hasTransition (m .slow) (sentBits word)) n)) all)
+    ∙ ap₂ (λ (n k : ℕ). map (readingAt (m .spacing) first) (positionsTo (hasTransition m (sentBits word)) n) ++ drop k before) all
+    (g .number ∙ ap (λ (n : ℕ). length (positionsTo (hasTransition m (sentBits word)) n)) all)
   where
     all : passed ≡ 157
     all = let l = g .most in omega arith

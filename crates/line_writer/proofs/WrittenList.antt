@@ -37,7 +37,7 @@ module _ (m : LineMode) (list : List ℕ) (place w first : ℕ) where
     -- A page has edgeCount, so a place past the end has no room.
     pub has-edges : 0 < edgeCount m w
     unfolding edgeCount
-    has-edges = let e = edge-count (m .slow) w fits in let l = least (m .slow) in omega arith
+    has-edges = let e = edge-count m w fits in let l = least (m .slow) in omega arith
       where
         least : (t : Bool) → 81 ≤ cond t 86 81
         least true = omega arith
@@ -47,7 +47,7 @@ module _ (m : LineMode) (list : List ℕ) (place w first : ℕ) where
     past h = let e = has-edges in short (omega arith)
 
     -- The number of transitions, as the code has found it.
-    module _ (count : ℕ) (counted : count ≡ length (transitions (m .slow) w)) where
+    module _ (count : ℕ) (counted : count ≡ length (transitions m w)) where
       pub too-few : length list - place < count → Outcome (refused Room) list
       unfolding edgeCount
       too-few h = short (subst (λ (n : ℕ). length list - place < n) counted h)

@@ -5,11 +5,7 @@ ghost use Rattle.page_word.specs.Word.{odd};
 ghost use Rattle.page_check_bits.specs.CheckBits.{checkBits};
 ghost use Rattle.line_writer.specs.Transitions.{sentBits, hasTransition, transitions};
 ghost use lib.ListN.{length};
-
-// The delimiters: bit p is one where position p has a transition. A mask, since an array would be laid out anew at every use.
-const HSM_DELIMITER: u64 = 120123822;
-
-const LSM_DELIMITER: u64 = 98413566;
+use line_mode::LineMode;
 
 // Whether the bit at a place is one.
 fn bit_at(number: u64, place: u32) -> bool
@@ -20,15 +16,12 @@ fn bit_at(number: u64, place: u32) -> bool
 }
 
 // Whether a page has a transition at a position.
-pub(crate) fn transition_at(slow: bool, word: u64, check: u32, position: u32) -> bool
+pub(crate) fn transition_at(mode: LineMode, word: u64, check: u32, position: u32) -> bool
     requires { ⌜ (check ≡ checkBits word) × (position ≤ 157) ⌝ }
-    ensures { λ r. ⌜ r ≡ hasTransition slow (sentBits word) position ⌝ }
+    ensures { λ r. ⌜ r ≡ hasTransition mode (sentBits word) position ⌝ }
 {
     if position <= 26 {
-        if slow {
-            return bit_at(LSM_DELIMITER, position);
-        }
-        return bit_at(HSM_DELIMITER, position);
+        return bit_at(line_page::start(mode), position);
     }
     if position % 2 == 1 {
         return true;
@@ -43,10 +36,10 @@ pub(crate) fn transition_at(slow: bool, word: u64, check: u32, position: u32) ->
 }
 
 // The number of a page's transitions: the delimiter's, 64 clocks, one for each one bit, and those at 155 and 157.
-pub(crate) fn edge_count(slow: bool, word: u64, check: u32) -> u32
+pub(crate) fn edge_count(mode: LineMode, word: u64, check: u32) -> u32
     requires { ⌜ (word < 2 ^ 48) × (check ≡ checkBits word) ⌝ }
-    ensures { λ r. ⌜ r ≡ length (transitions slow word) ⌝ }
+    ensures { λ r. ⌜ r ≡ length (transitions mode word) ⌝ }
 {
     let ones = u64::count_ones(word) + u32::count_ones(check);
-    if slow { ones + 86 } else { ones + 81 }
+    if mode.slow { ones + 86 } else { ones + 81 }
 }

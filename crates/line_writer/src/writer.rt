@@ -15,22 +15,18 @@ use line_mode::Found;
 use line_mode::LineMode;
 use line_mode::mode_of;
 
-// 2^48: the first number that is no word.
-const WIDE: u64 = 281474976710656;
-
 // Puts the page's readings at the head of a list that has room for them.
 fn write_page(tail: &mut [u32], mode: LineMode, word: u64, check: u32, first: u32)
     requires { ⌜ (check ≡ checkBits word) × (edgeCount mode word ≤ length (now tail)) ⌝ }
     ensures { λ _. ⌜ now (tail .exit) ≡ readings mode word first ++ drop (edgeCount mode word) (now (tail .entry)) ⌝ }
 {
-    let slow = mode.slow;
     let spacing = mode.spacing;
     let mut clock = first;
     let mut count: usize = 0;
     let mut passed: u32 = 0;
     while passed < 157 {
         let position = passed + 1;
-        if transition_at(slow, word, check, position) {
+        if transition_at(mode, word, check, position) {
             tail[count] = clock;
             count += 1;
         }
@@ -44,11 +40,11 @@ fn write_in(list: &mut [u32], place: usize, mode: LineMode, word: u64, first: u3
     ensures says { λ r. ⌜ said r ≡ saysIn mode (now (list .entry)) place word ⌝ }
     ensures leaves { λ _. ⌜ now (list .exit) ≡ leavesIn mode (now (list .entry)) place word first ⌝ }
 {
-    if WIDE <= word {
+    if page_word::WIDE <= word {
         return Answer::Refused(Refusal::Wide);
     }
     let check = page_check_bits::check_bits(word);
-    let count = edge_count(mode.slow, word, check) as usize;
+    let count = edge_count(mode, word, check) as usize;
     let length = list.len();
     // Length less place, and never place plus count: a place near 2^64 must not wrap.
     if length < place {

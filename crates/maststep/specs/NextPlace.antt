@@ -1,8 +1,11 @@
--- What the read call leaves at `*next`, as the fixed interfaces have it: where the next attempt opens; "on 14 and 12 it is left as it was".
+-- What the read call leaves at `*next`, as the fixed interfaces have it: where the next attempt opens; "on 14 and 12 it is left as it was". At the end
+-- of the capture it is the place.
 use Prim.Native.Nat.{ℕ}
-use mathlib.Core.Bool.{cond, _||_}
-use lib.Dec.{eqb}
-use Rattle.line_captures.specs.Captures.{Attempt}
+use Rattle.line_captures.specs.declared.captures.ReadOutcome.{ReadOutcome}
+use Rattle.line_captures.specs.declared.captures.ReadOutcome.the-variants.{UnknownMode, PastTheEnd, AtTheEnd, Attempt}
 
-unfoldable pub nextLeft : Attempt → ℕ → ℕ
-nextLeft attempt old = cond (eqb (attempt .says .kind) 14 || eqb (attempt .says .kind) 12) old (attempt .next)
+abbrev pub nextLeft : ReadOutcome → (place old : ℕ) → ℕ
+nextLeft UnknownMode place old = old
+nextLeft PastTheEnd place old = old
+nextLeft AtTheEnd place old = place
+nextLeft (Attempt ending next) place old = next

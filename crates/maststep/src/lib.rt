@@ -5,10 +5,10 @@ ghost use Rattle.page_check_bits.specs.Checked.{checked};
 ghost use Rattle.page_resolve.specs.Resolving.{resolveSays};
 ghost use Rattle.line_mode.specs.Gaps.{judged};
 ghost use Rattle.line_writer.specs.Writing.{writeSays, writeLeaves};
-ghost use Rattle.line_captures.specs.Captures.{readOf};
+ghost use Rattle.line_captures.specs.Captures.{saidOfRead, readOf};
 ghost use Rattle.port_step.specs.Runs.{runSays, runLeaves};
 ghost use Rattle.maststep.specs.NextPlace.{nextLeft};
-use answers::KIND;
+use line_captures::ReadOutcome;
 
 // The check bits of a word, or 13.
 #[no_mangle]
@@ -49,24 +49,27 @@ pub extern "C" fn maststep_write(
     line_writer::write(list, place, mode, word, first).packed()
 }
 
+// What is left where the caller keeps the next place.
+fn next_left(outcome: ReadOutcome, place: usize, old: usize) -> usize
+    ensures { λ r. ⌜ r ≡ nextLeft outcome place old ⌝ }
+{
+    match outcome {
+        ReadOutcome::UnknownMode => old,
+        ReadOutcome::PastTheEnd => old,
+        ReadOutcome::AtTheEnd => place,
+        ReadOutcome::Attempt { ending, next } => next,
+    }
+}
+
 // The first attempt from a place of a capture on: its outcome, nothing at the end of the capture, or 14, 12; and where the next attempt opens.
 #[no_mangle]
 pub extern "C" fn maststep_read(list: &[u32], place: usize, mode: u32, next: &mut usize) -> u64
-    ensures says { λ r. ⌜ r ≡ packed (readOf mode (now (list .entry)) place .says) ⌝ }
-    ensures leaves { λ _. ⌜ now (next .exit) ≡ nextLeft (readOf mode (now (list .entry)) place) (now (next .entry)) ⌝ }
+    ensures says { λ r. ⌜ r ≡ packed (saidOfRead (readOf mode (now (list .entry)) place)) ⌝ }
+    ensures leaves { λ _. ⌜ now (next .exit) ≡ nextLeft (readOf mode (now (list .entry)) place) place (now (next .entry)) ⌝ }
 {
     let outcome = line_captures::read(list, place, mode);
-    let answer = outcome.answer;
-    let packed = answer.packed();
-    let kind = packed / KIND;
-    if kind == 14 {
-        return packed;
-    }
-    if kind == 12 {
-        return packed;
-    }
-    *next = outcome.next;
-    packed
+    *next = next_left(outcome, place, *next);
+    outcome.answer().packed()
 }
 
 // A fresh device takes the events, three cells each, and the list gets one answer for each: their number, or 12.

@@ -10,7 +10,6 @@ pub mod GoodAsNew
 pub mod TheTable
 pub mod Links
 pub mod Refused
-pub mod ReadingProved
 pub mod PagesApart
 pub mod EndsAgree
 pub mod TheDemands

@@ -34,7 +34,8 @@ use Rattle.port_step.specs.declared.events.Event.{Event}
 use Rattle.port_step.specs.declared.events.Event.the-variants.{Sent, Read, Write}
 use Rattle.port_step.specs.Steps.{stepOver, stepDue, saysTo, afterAll}
 use Rattle.port_step.specs.Runs.{eventOf, eventsOf, runSays, runLeaves}
-use Rattle.bench_listing.specs.Listing.{refusedLine, listing}
+use Rattle.bench_listing.specs.Words.{decimal}
+use Rattle.bench_listing.specs.Listing.{given, refusedLine, listing}
 use Rattle.promises.specs.FirstLink.{pageFrom, toAbility, toAck}
 use Rattle.promises.specs.Refusals.{Kept, EachRefusal}
 
@@ -80,7 +81,7 @@ stays =
     refl refl refl refl (talk-after ∙ sym talk-before) refl refl
 
 pub each-refusal : EachRefusal
-unfolding afterAll saysTo stepOver tickDue writeDue sentDue reportDue registerOf commanded ownPage echoingPage nonceFor wordOf beyondAckAndEcho part withPart edgeDue hears edgeOf goesOn dropsOn judgementOf asks always byBit arrives isClock agrees checkBits checkList remainder xor readings transitions positionsTo hasTransition sentBits pageIn pageInAbility pageInAck mayOrder orders counted resolutionOf hasAbility roleOf writeSays writeLeaves saysIn leavesIn edgeCount modeOf readOf readIn runSays runLeaves eventsOf eventOf listing refusedLine
+unfolding afterAll saysTo stepOver tickDue writeDue sentDue reportDue registerOf commanded ownPage echoingPage nonceFor wordOf beyondAckAndEcho part withPart edgeDue hears edgeOf goesOn dropsOn judgementOf asks always byBit arrives isClock agrees checkBits checkList remainder xor readings transitions positionsTo hasTransition sentBits pageIn pageInAbility pageInAck mayOrder orders counted resolutionOf hasAbility roleOf writeSays writeLeaves saysIn leavesIn edgeCount modeOf readOf readIn runOf eventsOf eventOf listing given refusedLine decimal
 each-refusal =
     record {
       gap = record { run = record { said = refl; left = refl }; left = refl };

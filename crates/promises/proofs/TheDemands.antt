@@ -1,6 +1,6 @@
 -- The customer's demands hold.
 use Rattle.promises.specs.Demands.{Demands}
-use Rattle.promises.proofs.ReadingProved.{high-speed-back, low-speed-back}
+use Rattle.line_captures.proofs.ReadingProved.{high-speed-back, low-speed-back}
 use Rattle.promises.proofs.PagesApart.{small-damage}
 use Rattle.promises.proofs.EndsAgree.{both-ends}
 use Rattle.promises.proofs.NoPageOutlives.{no-page-outlives-its-link}

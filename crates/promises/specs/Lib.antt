@@ -1,4 +1,3 @@
-pub mod ReadingBack
 pub mod SmallDamage
 pub mod BothEnds
 pub mod TwoPasts

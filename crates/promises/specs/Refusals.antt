@@ -13,7 +13,7 @@ use Rattle.line_writer.specs.Transitions.{hasTransition, positionsTo, readingAt
 use Rattle.line_writer.specs.Writing.{writeSays, writeLeaves}
 use Rattle.line_reader.specs.declared.reader.Reader.{Reader}
 use Rattle.line_reader.specs.declared.reader.Reader.the-variants.{Open, Dropping}
-use Rattle.line_captures.specs.Captures.{readOf}
+use Rattle.line_captures.specs.Captures.{saidOfRead, readOf}
 use Rattle.port_state.specs.declared.State.{State}
 use Rattle.port_state.specs.declared.State.the-variants.{Break, Ability, CheckLink}
 use Rattle.port_state.specs.Memory.{freshDevice}
@@ -22,7 +22,8 @@ use Rattle.port_step.specs.declared.events.Event.{Event}
 use Rattle.port_step.specs.declared.events.Event.the-variants.{Edge, Tick, Sent, Report, Read, Write}
 use Rattle.port_step.specs.Steps.{stepDue, saysTo, afterAll}
 use Rattle.port_step.specs.Runs.{runSays, runLeaves}
-use Rattle.bench_listing.specs.Listing.{refusedLine, listing}
+use Rattle.bench_listing.specs.Words.{text}
+use Rattle.bench_listing.specs.Listing.{listing}
 use Rattle.promises.specs.FirstLink.{pageFrom, toBreak, toAbility, toAck, threeSent, stateAfter}
 
 -- Events from a fresh device on: all that is said on the way, and the state that is left.
@@ -94,7 +95,7 @@ pub record EachRefusal : Type 0 where
   pub turn-break : Kept toBreak (Sent 1) Turn
   pub turn-no-page : Kept toAck (Sent 8200000) Turn
   -- 12, Room: "place past the end; writing: entries from it on fewer than the page's; list kept". The zero page has 81 readings at high speed.
-  pub room-read : readOf 0 (replicate 81 7) 82 .says ≡ refused Room
+  pub room-read : saidOfRead (readOf 0 (replicate 81 7) 82) ≡ refused Room
   pub room-past-end : ListKept 0 (replicate 81 7) 82 0 Room
   pub room-fewer : ListKept 0 (replicate 80 7) 0 0 Room
   -- A run of two events, both ticks, with room for one answer.
@@ -107,4 +108,4 @@ pub record EachRefusal : Type 0 where
   pub mode-first : ListKept 2 [] 0 (2 ^ 48) Mode
   pub wide-next : ListKept 0 [] 0 (2 ^ 48) Wide
   -- 15, Odd: "program only": three bytes after the mode's are listed as `refused 15`.
-  pub odd : listing (0 ∷ 0 ∷ 0 ∷ 0 ∷ []) ≡ refusedLine 15
+  pub odd : listing (0 ∷ 0 ∷ 0 ∷ 0 ∷ []) ≡ text "refused 15\n"

@@ -1,7 +1,6 @@
 // The promises on the module as a whole. They are stated in specs/ and proved in proofs/; there is no code.
 //
 // specs/Demands      what the customer's demands say beyond the contracts of the calls, in one place: all that follows here
-// specs/ReadingBack  demand 2 for the line: a page sent is read as itself, and nothing else is read as a page
 // specs/SmallDamage  what the check bits are worth: no small damage makes another page of a page
 // specs/BothEnds     the two ends of a link settle on the same rate, with opposite roles
 // specs/TwoPasts     demand 3: no page outlives its link

@@ -10,18 +10,6 @@ use borrow.Author.Needs.{needs}
 use Rattle.listing.proofs.list.Statement.{statement}
 use Rattle.listing.proofs.list.Tie as tie
 
-list-requires : tie.Need-list-requires
-list-requires c κs = search needs
-
-packed-requires : tie.Need-packed-requires
-packed-requires c κs = search needs
-
-same-length : tie.Need-same-length
-same-length c = search needs
-
-same-length-2 : tie.Need-same-length-2
-same-length-2 c = search needs
-
 returns : tie.Need-returns
 returns c =
     let a = answered _ _ _ _ _ (omega arith) (omega arith) (c .packed .ensures ∙ ap packed (c .before .before .before .before .before .list .ensures .0)) (c .before .before .before .before .before .list .ensures .1 .1) in
@@ -30,4 +18,4 @@ returns c =
     ((fits, sym (length-take-le _ _ fits)), a .text)
 
 pub list-spec : {M : Type 1} → statement M
-list-spec = tie.close (tie.spec list-requires packed-requires same-length same-length-2 returns)
+list-spec = tie.close (tie.spec (λ c κs. search needs) (λ c κs. search needs) (λ c. search needs) (λ c. search needs) returns)

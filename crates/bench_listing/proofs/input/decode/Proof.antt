@@ -12,38 +12,11 @@ Inv-loop input readings₀ count i₀ readings i = Decoding input readings₀ re
 abbrev μ-loop : tie.MeasureT-loop
 μ-loop input readings₀ count i₀ readings i = count - i
 
-sub-count : tie.Need-sub-count Inv-loop μ-loop
-sub-count c = search needs
-
 loop-holds : tie.Need-loop-holds Inv-loop μ-loop
 loop-holds c = decode-start _ _ _
 
-mul-reading-at : tie.Need-mul-reading-at Inv-loop μ-loop
-mul-reading-at c = search needs
-
-add-reading-at : tie.Need-add-reading-at Inv-loop μ-loop
-add-reading-at c = search needs
-
-reading-at-requires : tie.Need-reading-at-requires Inv-loop μ-loop
-reading-at-requires c κs = search needs
-
-mul-readings : tie.Need-mul-readings Inv-loop μ-loop
-mul-readings c = search needs
-
-slice-write-readings : tie.Need-slice-write-readings Inv-loop μ-loop
-slice-write-readings c = search needs
-
-add-i : tie.Need-add-i Inv-loop μ-loop
-add-i c = search needs
-
-loop-less : tie.Need-loop-less Inv-loop μ-loop
-loop-less c = search needs
-
 loop-again : tie.Need-loop-again Inv-loop μ-loop
 loop-again c = rw (c .reading-at .ensures) (decode-on _ _ _ _ _ (c .before .before .loop .inv) (omega arith) (omega arith) (omega arith))
-
-same-length : tie.Need-same-length Inv-loop μ-loop
-same-length c = search needs
 
 returns : tie.Need-returns Inv-loop μ-loop
 returns c =
@@ -56,15 +29,15 @@ decode-spec =
     (tie.spec
     Inv-loop
     μ-loop
-    sub-count
+    (λ c. search needs)
     loop-holds
-    mul-reading-at
-    add-reading-at
-    reading-at-requires
-    mul-readings
-    slice-write-readings
-    add-i
-    loop-less
+    (λ c. search needs)
+    (λ c. search needs)
+    (λ c κs. search needs)
+    (λ c. search needs)
+    (λ c. search needs)
+    (λ c. search needs)
+    (λ c. search needs)
     loop-again
-    same-length
+    (λ c. search needs)
     returns)

@@ -3,30 +3,21 @@ use native.Mathlib.Nat.{zero-add}
 use borrow.Author.Tests.{le-leb, lt-leb}
 use borrow.Author.Needs.{needs}
 use Rattle.answers.specs.Answers.{number}
-use Rattle.bench_listing.specs.Calls.{listSays, listReadings, listOutput}
+use Rattle.bench_listing.specs.Calls.{listed}
 use Rattle.bench_listing.proofs.PlacingLaws.{puts-headed}
 use Rattle.bench_listing.proofs.input.list.Statement.{statement}
 use Rattle.bench_listing.proofs.input.list.Tie as tie
 
 returns : tie.Need-returns
-unfolding listSays listReadings listOutput
+unfolding listed
 returns c = rw (lt-leb 8000 _ (c .if1 .taken)) (refl, (refl, refl))
 
 returns-2 : tie.Need-returns-2
-unfolding listSays listReadings listOutput
+unfolding listed
 returns-2 c = rw (le-leb 8000 _ (c .before .if1 .left), lt-leb 184040 _ (c .if2 .taken)) (refl, (refl, refl))
 
-list-input-requires : tie.Need-list-input-requires
-list-input-requires c κs = search needs
-
-same-length : tie.Need-same-length
-same-length c = search needs
-
-same-length-2 : tie.Need-same-length-2
-same-length-2 c = search needs
-
 returns-3 : tie.Need-returns-3
-unfolding listSays listReadings listOutput
+unfolding listed
 returns-3 c =
     rw (
       le-leb 8000 _ (c .before .before .before .before .before .before .before .before .if1 .left),
@@ -39,4 +30,4 @@ returns-3 c =
 
 pub list-spec : {M : Type 1} → statement M
 list-spec =
-    tie.close (tie.spec returns returns-2 list-input-requires same-length same-length-2 returns-3)
+    tie.close (tie.spec returns returns-2 (λ c κs. search needs) (λ c. search needs) (λ c. search needs) returns-3)

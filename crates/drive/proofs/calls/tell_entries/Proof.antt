@@ -9,89 +9,29 @@ Inv-loop answers₀ told answer list count i₀ answers i = i ≤ count
 abbrev μ-loop : tie.MeasureT-loop
 μ-loop answers₀ told answer list count i₀ answers i = count - i
 
-add-answers : tie.Need-add-answers Inv-loop μ-loop
-add-answers c = search needs
-
-mul-answers : tie.Need-mul-answers Inv-loop μ-loop
-mul-answers c = search needs
-
-element-write-answers : tie.Need-element-write-answers Inv-loop μ-loop
-element-write-answers c = search needs
-
-add-answers-2 : tie.Need-add-answers-2 Inv-loop μ-loop
-add-answers-2 c = search needs
-
-mul-answers-2 : tie.Need-mul-answers-2 Inv-loop μ-loop
-mul-answers-2 c = search needs
-
-element-write-answers-2 : tie.Need-element-write-answers-2 Inv-loop μ-loop
-element-write-answers-2 c = search needs
-
-loop-holds : tie.Need-loop-holds Inv-loop μ-loop
-loop-holds c = search needs
-
-mul-wide : tie.Need-mul-wide Inv-loop μ-loop
-mul-wide c = search needs
-
-shared-slice-read-wide : tie.Need-shared-slice-read-wide Inv-loop μ-loop
-shared-slice-read-wide c = search needs
-
-wide-requires : tie.Need-wide-requires Inv-loop μ-loop
-wide-requires c κs = search needs
-
-add-answers-3 : tie.Need-add-answers-3 Inv-loop μ-loop
-add-answers-3 c = search needs
-
-add-answers-4 : tie.Need-add-answers-4 Inv-loop μ-loop
-add-answers-4 c = search needs
-
-mul-answers-3 : tie.Need-mul-answers-3 Inv-loop μ-loop
-mul-answers-3 c = search needs
-
-element-write-answers-3 : tie.Need-element-write-answers-3 Inv-loop μ-loop
-element-write-answers-3 c = search needs
-
-add-i : tie.Need-add-i Inv-loop μ-loop
-add-i c = search needs
-
-loop-less : tie.Need-loop-less Inv-loop μ-loop
-loop-less c = search needs
-
-loop-again : tie.Need-loop-again Inv-loop μ-loop
-loop-again c = search needs
-
-add-result : tie.Need-add-result Inv-loop μ-loop
-add-result c = search needs
-
-add-result-2 : tie.Need-add-result-2 Inv-loop μ-loop
-add-result-2 c = search needs
-
-returns : tie.Need-returns Inv-loop μ-loop
-returns c = search needs
-
 pub tell-entries-spec : {M : Type 1} → statement M
 tell-entries-spec =
     tie.close
     (tie.spec
     Inv-loop
     μ-loop
-    add-answers
-    mul-answers
-    element-write-answers
-    add-answers-2
-    mul-answers-2
-    element-write-answers-2
-    loop-holds
-    mul-wide
-    shared-slice-read-wide
-    wide-requires
-    add-answers-3
-    add-answers-4
-    mul-answers-3
-    element-write-answers-3
-    add-i
-    loop-less
-    loop-again
-    add-result
-    add-result-2
-    returns)
+    (λ c. search needs)
+    (λ c. search needs)
+    (λ c. search needs)
+    (λ c. search needs)
+    (λ c. search needs)
+    (λ c. search needs)
+    (λ c. search needs)
+    (λ c. search needs)
+    (λ c. search needs)
+    (λ c κs. search needs)
+    (λ c. search needs)
+    (λ c. search needs)
+    (λ c. search needs)
+    (λ c. search needs)
+    (λ c. search needs)
+    (λ c. search needs)
+    (λ c. search needs)
+    (λ c. search needs)
+    (λ c. search needs)
+    (λ c. search needs))

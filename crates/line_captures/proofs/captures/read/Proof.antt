@@ -1,20 +1,8 @@
-use mathlib.Core.Path.{refl, sym, _∙_}
-use Rattle.line_captures.specs.Captures.{readOf}
+use mathlib.Core.Path.{sym, _∙_}
 use borrow.Author.Needs.{needs}
+use Rattle.line_captures.specs.Captures.{readOf}
 use Rattle.line_captures.proofs.captures.read.Statement.{statement}
 use Rattle.line_captures.proofs.captures.read.Tie as tie
-
-mode-of-requires : tie.Need-mode-of-requires
-mode-of-requires c κs = search needs
-
-enum-known-m : tie.Need-enum-known-m
-enum-known-m c = search needs
-
-read-in-requires : tie.Need-read-in-requires
-read-in-requires c κs = search needs
-
-enum-told : tie.Need-enum-told
-enum-told c = search needs
 
 returns : tie.Need-returns
 unfolding readOf
@@ -22,8 +10,8 @@ returns c = rw (sym (c .before .before .before .before .mode-of .ensures) ∙ c 
 
 returns-2 : tie.Need-returns-2
 unfolding readOf
-returns-2 c = rw (sym (c .before .before .mode-of .ensures) ∙ c .enum-told .given .1) (record { answer = refl; next = refl })
+returns-2 c = rw (sym (c .before .before .mode-of .ensures) ∙ c .enum-told .given .1)
 
 pub read-spec : {M : Type 1} → statement M
 read-spec =
-    tie.close (tie.spec mode-of-requires enum-known-m read-in-requires enum-told returns returns-2)
+    tie.close (tie.spec (λ c κs. search needs) (λ c. search needs) (λ c κs. search needs) (λ c. search needs) returns returns-2)

@@ -1,27 +1,38 @@
-use mathlib.Core.Path.{sym, _∙_}
+-- Each return is the law of its kind of position.
+use mathlib.Core.Path.{_∙_}
 use native.Mathlib.Omega.{arith}
 use borrow.Author.Needs.{needs}
-use borrow.Author.Tests.{le-leb, lt-leb}
-use Rattle.line_reader.specs.Reading.{goesOn}
-use Rattle.line_reader.proofs.PatternLaws.{clocked, clock-asks, within-page}
+use borrow.Author.Tests.{lt-leb, ne-eqb}
+use Rattle.line_reader.proofs.PatternLaws.{span-asked, after-bit, after-clock, after-155, after-end}
+use Rattle.line_reader.proofs.StepLaws.{wrong, in-start, at-bit, at-clock, at-155}
 use Rattle.line_reader.proofs.reader.step_on.Statement.{statement}
 use Rattle.line_reader.proofs.reader.step_on.Tie as tie
 
 pub step-on-spec : {M : Type 1} → statement M
-unfolding goesOn
 step-on-spec =
     tie.close
     (tie.spec
     (λ c κs. search needs)
-    (λ c. let d = clocked _ (sym (c .before .before .is-clock .ensures) ∙ c .before .if1 .taken) in omega (arith, d .most))
+    (λ c κs. search needs)
+    (λ c. search needs)
+    (λ c κs. search needs)
+    (λ c. c .moved .ensures ∙ in-start _ _ _ _ _ (record { least = omega arith; most = omega arith }) (c .before .before .before .before .if1 .taken) (span-asked _ _ _ _ _ (c .before .before .before .before .if1 .taken) (record { least = omega arith; most = omega arith }) (c .before .before .before .start .ensures) (c .before .before .spans .ensures) ∙ c .before .if2 .taken))
+    (λ c κs. search needs)
+    (λ c. c .dropped .ensures ∙ wrong _ _ _ _ _ (span-asked _ _ _ _ _ (c .before .before .before .before .if1 .taken) (record { least = omega arith; most = omega arith }) (c .before .before .before .start .ensures) (c .before .before .spans .ensures) ∙ c .before .if2 .left))
+    (λ c. search needs)
+    (λ c κs. search needs)
+    (λ c. c .moved2 .ensures ∙ at-bit _ _ _ _ _ (record { least = omega arith; most = omega arith }) (omega arith) (omega arith) (omega arith) (c .before .if5 .taken))
+    (λ c κs. search needs)
+    (λ c. c .dropped2 .ensures ∙ wrong _ _ _ _ _ (after-bit _ _ _ (record { least = omega arith; most = omega arith }) (omega arith) (omega arith) (omega arith) ∙ ne-eqb _ 1 (c .before .if5 .left)))
+    (λ c. search needs)
     (λ c κs. search needs)
     (λ c κs. search needs)
-    (λ c. rw (clock-asks (c .before .before .before .before .before .args .slow) (c .before .before .before .before .before .args .at) (c .before .before .before .before .before .args .k) (record { least = omega arith; most = omega arith }) (sym (c .before .before .before .before .is-clock .ensures) ∙ c .before .before .before .if1 .taken) ∙ le-leb _ 2 (c .before .before .if2 .taken)) (rw (c .before .with-bit .ensures) at (c .arrive .ensures)))
+    (λ c. (rw (c .before .with-bit .ensures) at (c .moved3 .ensures)) ∙ at-clock _ _ _ _ _ (record { least = omega arith; most = omega arith }) (omega arith) (omega arith) (omega arith) (c .before .before .if6 .taken))
     (λ c κs. search needs)
-    (λ c. rw (clock-asks (c .before .before .before .before .args .slow) (c .before .before .before .before .args .at) (c .before .before .before .before .args .k) (record { least = omega arith; most = omega arith }) (sym (c .before .before .before .is-clock .ensures) ∙ c .before .before .if1 .taken) ∙ lt-leb _ 2 (c .before .if2 .left)) (c .dropped .ensures))
+    (λ c. c .dropped3 .ensures ∙ wrong _ _ _ _ _ (after-clock _ _ _ (record { least = omega arith; most = omega arith }) (omega arith) (omega arith) (omega arith) ∙ lt-leb _ 2 (c .before .if6 .left)))
     (λ c κs. search needs)
-    (λ c. omega (arith, within-page _ _ _ (sym (c .before .pattern-asks .ensures) ∙ c .if3 .taken)))
+    (λ c. c .whole .ensures ∙ at-155 _ _ _ _ _ (record { least = omega arith; most = omega arith }) (c .before .before .if7 .taken) (c .before .if8 .taken))
     (λ c κs. search needs)
-    (λ c. rw (sym (c .before .before .pattern-asks .ensures) ∙ c .before .if3 .taken, sym (c .before .before .before .before .is-clock .ensures) ∙ c .before .before .before .if1 .left) (c .arrive2 .ensures))
+    (λ c. c .dropped4 .ensures ∙ wrong _ _ _ _ _ (after-155 _ _ _ (record { least = omega arith; most = omega arith }) (c .before .before .if7 .taken) ∙ ne-eqb _ 2 (c .before .if8 .left)))
     (λ c κs. search needs)
-    (λ c. rw (sym (c .before .before .pattern-asks .ensures) ∙ c .before .if3 .left) (c .dropped2 .ensures)))
+    (λ c. c .dropped5 .ensures ∙ wrong _ _ _ _ _ (after-end _ _ _ (record { least = omega arith; most = omega arith }) (omega arith))))

@@ -10,14 +10,14 @@ use Rattle.line_writer.proofs.writer.write_page.Statement.{statement}
 use Rattle.line_writer.proofs.writer.write_page.Tie as tie
 
 abbrev Inv-loop : tie.InvT-loop
-Inv-loop tail₀ word check first slow spacing clock₀ count₀ passed₀ tail clock count passed =
-    Writing slow spacing word first tail₀ tail clock count passed
+Inv-loop tail₀ mode word check first spacing clock₀ count₀ passed₀ tail clock count passed =
+    Writing mode word first tail₀ tail clock count passed
 
 abbrev μ-loop : tie.MeasureT-loop
-μ-loop tail₀ word check first slow spacing clock₀ count₀ passed₀ tail clock count passed = 157 - passed
+μ-loop tail₀ mode word check first spacing clock₀ count₀ passed₀ tail clock count passed = 157 - passed
 
 loop-holds : tie.Need-loop-holds Inv-loop μ-loop
-loop-holds c = start _ _ _ _ _ (search needs)
+loop-holds c = start _ _ _ _ (search needs)
 
 add-position : tie.Need-add-position Inv-loop μ-loop
 add-position c = omega arith
@@ -28,18 +28,18 @@ transition-at-requires c κs = (c .before .before .before .pre .0, omega arith)
 mul-tail : tie.Need-mul-tail Inv-loop μ-loop
 unfolding edgeCount transitions
 mul-tail c =
-    let r = room _ _ _ _ _ _ _ _ _ (c .before .before .before .loop .inv) (c .before .before .loop-test .taken) (sym (c .before .transition-at .ensures) ∙ c .if1 .taken) (c .before .before .before .before .before .pre .1) in search needs
+    let r = room _ _ _ _ _ _ _ _ (c .before .before .before .loop .inv) (c .before .before .loop-test .taken) (sym (c .before .transition-at .ensures) ∙ c .if1 .taken) (c .before .before .before .before .before .pre .1) in search needs
 
 slice-write-tail : tie.Need-slice-write-tail Inv-loop μ-loop
 unfolding edgeCount transitions
 slice-write-tail c =
-    let r = room _ _ _ _ _ _ _ _ _ (c .before .before .before .loop .inv) (c .before .before .loop-test .taken) (sym (c .before .transition-at .ensures) ∙ c .if1 .taken) (c .before .before .before .before .before .pre .1) in
-    let s = same-long _ _ _ _ _ _ _ _ _ (c .before .before .before .loop .inv) (c .before .before .before .before .before .pre .1) in omega arith
+    let r = room _ _ _ _ _ _ _ _ (c .before .before .before .loop .inv) (c .before .before .loop-test .taken) (sym (c .before .transition-at .ensures) ∙ c .if1 .taken) (c .before .before .before .before .before .pre .1) in
+    let s = same-long _ _ _ _ _ _ _ _ (c .before .before .before .loop .inv) (c .before .before .before .before .before .pre .1) in omega arith
 
 add-count : tie.Need-add-count Inv-loop μ-loop
 unfolding edgeCount transitions
 add-count c =
-    let r = room _ _ _ _ _ _ _ _ _ (c .before .before .before .loop .inv) (c .before .before .loop-test .taken) (sym (c .before .transition-at .ensures) ∙ c .if1 .taken) (c .before .before .before .before .before .pre .1) in search needs
+    let r = room _ _ _ _ _ _ _ _ (c .before .before .before .loop .inv) (c .before .before .loop-test .taken) (sym (c .before .transition-at .ensures) ∙ c .if1 .taken) (c .before .before .before .before .before .pre .1) in search needs
 
 wrapping-add-u32-requires : tie.Need-wrapping-add-u32-requires Inv-loop μ-loop
 wrapping-add-u32-requires c κs = search needs
@@ -54,16 +54,16 @@ loop-again c =
     (⊎-elim
     (λ v.
     let there = sym (c .before .before .transition-at .ensures) ∙ v .0 .taken in
-    let r = room _ _ _ _ _ _ _ _ _ (c .before .before .before .before .loop .inv) (c .before .before .before .loop-test .taken) there (c .before .before .before .before .before .before .pre .1) in
-    rw (v .1, v .2) (turn-yes _ _ _ _ _ _ _ _ _ (c .before .before .before .before .loop .inv) (c .before .before .before .loop-test .taken) there r))
+    let r = room _ _ _ _ _ _ _ _ (c .before .before .before .before .loop .inv) (c .before .before .before .loop-test .taken) there (c .before .before .before .before .before .before .pre .1) in
+    rw (v .1, v .2) (turn-yes _ _ _ _ _ _ _ _ (c .before .before .before .before .loop .inv) (c .before .before .before .loop-test .taken) there r))
     (λ v.
     let none = sym (c .before .before .transition-at .ensures) ∙ v .0 .left in
-    rw (v .1, v .2) (turn-no _ _ _ _ _ _ _ _ _ (c .before .before .before .before .loop .inv) (c .before .before .before .loop-test .taken) none))
+    rw (v .1, v .2) (turn-no _ _ _ _ _ _ _ _ (c .before .before .before .before .loop .inv) (c .before .before .before .loop-test .taken) none))
     (c .before .if1 .came))
 
 same-length : tie.Need-same-length Inv-loop μ-loop
 unfolding edgeCount transitions
-same-length c = same-long _ _ _ _ _ _ _ _ _ (c .before .loop .inv) (c .before .before .before .pre .1)
+same-length c = same-long _ _ _ _ _ _ _ _ (c .before .loop .inv) (c .before .before .before .pre .1)
 
 returns : tie.Need-returns Inv-loop μ-loop
 returns c = finish _ _ _ _ _ _ _ _ (c .before .loop .inv) (c .loop-test .left)
