@@ -82,3 +82,7 @@ pub record Leaves : Type 0 where
 
 abbrev pub leaving : Said → List ℕ → Leaves
 leaving says list = record { says = says; list = list }
+
+-- On a refusal "list kept".
+abbrev pub kept : Refusal → List ℕ → Leaves
+kept refusal list = leaving (refused refusal) list

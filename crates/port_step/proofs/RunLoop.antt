@@ -7,7 +7,7 @@ use native.Mathlib.Numerals.{add-one}
 use native.Mathlib.Omega.{arith}
 use lib.ListN.{length, getD, drop, set, length-append, length-drop}
 use lib.Seq.{drop-cons, set-at}
-use Rattle.answers.specs.Answers.{said, packed, number, refused, leaving}
+use Rattle.answers.specs.Answers.{said, packed, number, leaving, kept}
 use Rattle.answers.specs.declared.Refusal.the-variants.{Room}
 use Rattle.port_state.specs.declared.Device.{Device}
 use Rattle.port_state.specs.declared.Reply.{Reply}
@@ -137,7 +137,7 @@ finish cells before list device taken place g h =
     all-done = g .whole ∙ ap (λ (events : List Event). g .done ++ map packed (saysTo device events)) none-left ∙ append-nil (g .done)
 
 -- Without room the call refuses and the list is kept;
-pub too-few : (cells list : List ℕ) → length list < length cells / 3 → runOf cells list ≡ leaving (refused Room) list
+pub too-few : (cells list : List ℕ) → length list < length cells / 3 → runOf cells list ≡ kept Room list
 unfolding runOf
 too-few cells list h = rw (lt-leb (length (eventsOf cells)) (length list) (subst (λ (k : ℕ). length list < k) (sym (count-events cells)) h))
 

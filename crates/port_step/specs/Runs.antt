@@ -5,7 +5,7 @@ use mathlib.Core.List.{List, [], _∷_, _++_, map}
 use lib.ListN.{length, drop}
 use Rattle.answers.specs.declared.Refusal.the-variants.{Room}
 use Rattle.answers.specs.Choices.{if_then_else_, _≤?_, _=?_}
-use Rattle.answers.specs.Answers.{packed, number, refused, Leaves, leaving}
+use Rattle.answers.specs.Answers.{packed, number, Leaves, leaving, kept}
 use Rattle.port_state.specs.Memory.{freshDevice}
 use Rattle.port_step.specs.declared.events.Event.{Event}
 use Rattle.port_step.specs.declared.events.Event.the-variants.{Edge, Tick, Sent, Report, Read, Write, Unnamed}
@@ -41,4 +41,4 @@ unfoldable pub runOf : (cells list : List ℕ) → Leaves
 runOf cells list =
     let count = length (eventsOf cells) in
     if count ≤? length list then leaving (number count) (answersTo cells ++ drop count list)
-    else leaving (refused Room) list
+    else kept Room list

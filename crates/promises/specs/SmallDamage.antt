@@ -6,7 +6,7 @@ use mathlib.Core.List.{List, [], _∷_, _++_}
 use lib.ListN.{length, replicate}
 use Rattle.page_word.specs.Word.{bitsOf}
 use Rattle.page_check_bits.specs.CheckBits.{plus, generator, checkList}
-use Rattle.line_mode.specs.Delimiters.{among}
+use Rattle.page_word.specs.Lists.{among}
 use Rattle.line_writer.specs.Transitions.{transitions}
 
 -- A polynomial times x^16 + x^15 + x^2 + 1: the divisor added in once at the power of each coefficient that is one.
