@@ -7,6 +7,7 @@ use lib.Dec.{eqb}
 use Rattle.answers.specs.Answers.{nothing, refused, registerValue}
 use Rattle.answers.specs.declared.Refusal.the-variants as refusal
 use Rattle.page_word.specs.Word.{hasBit}
+use Rattle.page_word.specs.Fields.{withPart}
 use Rattle.port_state.specs.declared.Flags.{Flags}
 use Rattle.port_state.specs.declared.Device.{Device}
 use Rattle.port_state.specs.Memory.{isUp}
@@ -23,7 +24,7 @@ use Rattle.promises.proofs.Twins.{Twins, Alike, twins-if, kept, saying-
 -- 7.513 without bits 6 and 4 has nothing of the flags.
 status-without : (received up fault latch : Bool)
     → without6And4 (registerValue (statusBits received up fault latch)) ≡ registerValue (statusBits false up false latch)
-unfolding without6And4 statusBits
+unfolding without6And4 withPart statusBits
 status-without true true true true = refl
 status-without true true true false = refl
 status-without true true false true = refl

@@ -54,7 +54,7 @@ abbrev pub pageUnchecked : ℕ → ℕ → List Event
 pageUnchecked reading word =
     map Edge
     (map (readingAt (lsmMode .spacing) reading)
-    (positionsTo (hasTransition (lsmMode .slow) (bitsOf 48 word ++ replicate 16 false)) 157))
+    (positionsTo (hasTransition lsmMode (bitsOf 48 word ++ replicate 16 false)) 157))
 
 -- As in the first link, but with these values in 514 and 515 and this page from the partner, which comes again with Ack 1 and the own nonce, 5, echoed;
 -- three pages are sent, and then the link comes up.
