@@ -13,7 +13,6 @@ use answers::Refusal;
 use line_mode::LineMode;
 use line_reader::Ending;
 use line_reader::Heard;
-use line_reader::edge_alone;
 use page_word::Field;
 use page_word::get;
 use page_word::has_other_selector;
@@ -130,7 +129,7 @@ fn listen(mode: LineMode, device: Device, reading: u32) -> Reply
 {
     let link = device.link;
     let reader = link.reader;
-    let step = edge_alone(reader, mode, reading);
+    let step = reader.edge(mode, reading);
     let heard = step.heard;
     let moved = step.reader;
     hear(with_reader(device, moved), heard, reading)

@@ -10,4 +10,4 @@ listen-spec =
     tie.close
     (tie.spec
     (λ c κs. search needs) (λ c κs. search needs) (λ c κs. search needs)
-    (λ c. as-due (c .hear .ensures) (simp (c .before .with-reader .ensures, c .before .before .edge-alone .ensures))))
+    (λ c. as-due (c .hear .ensures) (simp (c .before .with-reader .ensures, c .before .before .edge .ensures))))
