@@ -165,16 +165,9 @@ impl Line {
         }
     }
 
-    /// Whether the pattern of a page allows an edge k positions after the one at this position.
-    fn asks(&self, at: u32, k: u32) -> bool {
-        match at {
-            // Of the delimiter and the first clock, just the two edges may stand there.
-            0..=26 => (self.delimiter | 1 << 27) >> at & ((2 << k) - 1) == 1 << k | 1,
-            27..=154 if at % 2 == 0 => k == 1,
-            27..=154 => k <= 2,
-            155 => k == 2,
-            _ => false,
-        }
+    /// Whether of the delimiter and the first clock just the edges at this position and k after it may stand there.
+    fn spans(&self, at: u32, k: u32) -> bool {
+        (self.delimiter | 1 << 27) >> at & ((2 << k) - 1) == 1 << k | 1
     }
 }
 
@@ -213,23 +206,12 @@ impl Reader {
                 None
             }
             Reader::Open { at, last, bits } => match line.judge(reading.wrapping_sub(last)) {
-                Gap::Positions(k) if line.asks(at, k) => {
-                    let is_clock = (27..=153).contains(&at) && at % 2 == 1;
-                    let bits = match k {
-                        _ if !is_clock => bits,
-                        1 => bits >> 1 | 1 << 63,
-                        _ => bits >> 1,
-                    };
-                    self.arrive(at + k, bits, reading)
-                }
+                Gap::Positions(k) => self.step_on(line, at, k, bits, reading),
                 Gap::Quiet => {
                     *self = Reader::opened(reading);
                     Some(Err(Refusal::Cut))
                 }
-                _ => {
-                    *self = Reader::Dropping { last: reading };
-                    Some(Err(Refusal::Gap))
-                }
+                Gap::Unfit => self.wrong(reading),
             },
             Reader::Dropping { last } => {
                 *self = match line.judge(reading.wrapping_sub(last)) {
@@ -241,18 +223,39 @@ impl Reader {
         }
     }
 
-    /// An edge where the pattern asked for one.
-    fn arrive(&mut self, at: u32, bits: u64, reading: u32) -> Option<Outcome> {
-        if at < 157 {
-            *self = Reader::Open {
-                at,
-                last: reading,
-                bits,
-            };
-            return None;
+    /// An edge so many positions after the last one: in the delimiter, at a bit or a clock, or at the end.
+    fn step_on(&mut self, line: &Line, at: u32, k: u32, bits: u64, reading: u32) -> Option<Outcome> {
+        match at {
+            0..=26 if line.spans(at, k) => self.moved(at + k, bits, reading),
+            27..=154 if at % 2 == 0 => match k {
+                1 => self.moved(at + 1, bits, reading),
+                _ => self.wrong(reading),
+            },
+            27..=154 => match k {
+                1 => self.moved(at + 1, bits >> 1 | 1 << 63, reading),
+                2 => self.moved(at + 2, bits >> 1, reading),
+                _ => self.wrong(reading),
+            },
+            155 if k == 2 => self.whole(bits, reading),
+            _ => self.wrong(reading),
         }
+    }
+
+    /// The attempt goes on from a position.
+    fn moved(&mut self, at: u32, bits: u64, last: u32) -> Option<Outcome> {
+        *self = Reader::Open { at, last, bits };
+        None
+    }
+
+    /// A gap that the pattern does not ask for.
+    fn wrong(&mut self, reading: u32) -> Option<Outcome> {
         *self = Reader::Dropping { last: reading };
-        // A word and its check bits, taken together, leave no remainder.
+        Some(Err(Refusal::Gap))
+    }
+
+    /// The edge at 157. A word and its check bits, taken together, leave no remainder.
+    fn whole(&mut self, bits: u64, reading: u32) -> Option<Outcome> {
+        *self = Reader::Dropping { last: reading };
         Some(if remainder(bits, 64) == 0 {
             Ok(bits & ((1 << 48) - 1))
         } else {

@@ -42,7 +42,7 @@ pub record ReadsBack (m : LineMode) : Type 0 where
       → attemptOf m Fresh (readings m w first ++ rest) at
       ≡ Attempt (Good w) (opensAt m (Dropping (readingAt (m .spacing) first 157)) rest (at + edgeCount m w))
   -- and so it is by the read call at the place where the write call put it, if there was room.
-  pub placed-back : (list : List ℕ) (place w first : ℕ) → w < 2 ^ 48 → 4 * m .spacing < 2 ^ 32 → edgeCount m w ≤ length list - place
+  pub placed-back : (list : List ℕ) (place w first : ℕ) → w < 2 ^ 48 → 4 * m .spacing < 2 ^ 32 → place + edgeCount m w ≤ length list
       → readIn m (placed m list place w first) place
       ≡ Attempt (Good w) (opensAt m (Dropping (readingAt (m .spacing) first 157)) (drop (place + edgeCount m w) list) (place + edgeCount m w))
   -- A shift of all readings modulo 2^32 is not seen: the same is heard, and the reader is shifted.

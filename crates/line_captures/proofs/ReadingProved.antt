@@ -6,8 +6,9 @@ use Prim.Native.Nat.{ℕ, zero, suc, _+_, _-_, _*_, _^_, _<_, _≤_}
 use native.Mathlib.Omega.{arith}
 use lib.Dec.{eqb, ltb}
 use lib.ListN.{length, drop, length-append, length-drop}
-use borrow.Author.Tests.{ltb-false, eqb-false, lt-ltb, le-ltb, le-leb, ne-eqb}
+use borrow.Author.Tests.{ltb-false, eqb-false, lt-ltb, le-ltb, ne-eqb}
 use Rattle.answers.specs.Answers.{number, pageRead}
+use Rattle.answers.specs.declared.Refusal.the-variants.{Mode}
 use Rattle.line_mode.specs.declared.modes.LineMode.{LineMode}
 use Rattle.line_mode.specs.declared.modes.Found.{Found}
 use Rattle.line_mode.specs.declared.modes.Found.the-variants.{Known}
@@ -18,10 +19,10 @@ use Rattle.line_reader.specs.declared.reader.Step.{Step}
 use Rattle.line_reader.specs.declared.reader.Reader.{Reader}
 use Rattle.line_reader.specs.declared.reader.Reader.the-variants.{Fresh, Open}
 use Rattle.line_mode.specs.Clock.{timeBetween}
-use Rattle.line_mode.specs.Modes.{hsmMode, lsmMode, modeOf, saysBy}
+use Rattle.line_mode.specs.Modes.{hsmMode, lsmMode, modeOf, byMode}
 use Rattle.line_mode.proofs.Windows.{Apart, hsm-apart, lsm-apart}
 use Rattle.line_writer.specs.Transitions.{readings, edgeCount}
-use Rattle.line_writer.specs.Writing.{saysIn, writeSays}
+use Rattle.line_writer.specs.Writing.{kept, writeIn, writeOf}
 use Rattle.line_writer.proofs.WrittenList.{has-edges}
 use Rattle.line_reader.specs.Reading.{step, edgeOf, heardAlong, readerAfter}
 use Rattle.line_captures.specs.declared.captures.ReadOutcome.the-variants.{PastTheEnd, AtTheEnd, Attempt}
@@ -72,12 +73,12 @@ module _ (m : LineMode) (apart : Apart m) (capture : List ℕ) (place w : ℕ) w
       by false false next h = answered-carried m w (drop place capture) place next h
 
 -- The write call by a mode's number, where there is room.
-write-known : (mode : ℕ) (m : LineMode) (list : List ℕ) (place w : ℕ) → modeOf mode ≡ Known m → w < 2 ^ 48 → place + edgeCount m w ≤ length list
-    → writeSays mode list place w ≡ number (edgeCount m w)
-unfolding writeSays saysIn
-write-known mode m list place w known word room =
-    ap (λ (f : Found). saysBy f (λ n. saysIn n list place w)) known
-    ∙ rw (lt-ltb w (2 ^ 48) word, le-leb (edgeCount m w) (length list - place) (omega arith))
+write-known : (mode : ℕ) (m : LineMode) (list : List ℕ) (place w first : ℕ) → modeOf mode ≡ Known m → w < 2 ^ 48 → place + edgeCount m w ≤ length list
+    → writeOf mode list place w first .says ≡ number (edgeCount m w)
+unfolding writeOf writeIn
+write-known mode m list place w first known word room =
+    ap (λ (f : Found). byMode f (λ n. writeIn n list place w first) (kept Mode list) .says) known
+    ∙ rw (lt-ltb w (2 ^ 48) word, le-ltb (length list) (place + edgeCount m w) room)
 
 -- Over any numbers whose windows lie apart, four spacings being less than the clock's round, and any number that names them.
 pub reading-back : (mode : ℕ) (m : LineMode) → modeOf mode ≡ Known m → Apart m → 4 * m .spacing < 2 ^ 32 → ReadingBack mode m
@@ -96,7 +97,7 @@ reading-back mode m known apart clock =
       read = λ capture place w b. ap saidOfRead (read-known mode m capture place known) ∙ read-back m apart capture place w b;
       read-only = λ capture place w h. read-only m apart capture place w (ap saidOfRead (sym (read-known mode m capture place known)) ∙ h);
       written = λ list place w first word room.
-          let says = write-known mode m list place w known word room in (says, write-then-read mode list place w first (edgeCount m w) says);
+          let says = write-known mode m list place w first known word room in (says, write-then-read mode list place w first (edgeCount m w) says);
       forward = λ capture place h.
           let g = walk-step m capture place h .goes in (g .ending, g .next, read-known mode m capture place known ∙ g .told, g .forward, g .inside);
       each-once = λ capture place more enough. attempts-told mode m known capture more place enough;

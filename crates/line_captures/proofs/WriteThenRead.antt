@@ -1,29 +1,31 @@
 -- What is written is read back. The readings of a page at nominal spacing have gaps of so many spacings each, which lie in their windows; so the
 -- theorem of ReadBack holds of them, also where they stand in a list among others.
 use mathlib.Core.Path.{_≡_, refl, sym, ap, ap₂, _∙_, subst}
-use mathlib.Core.Bool.{Bool, true, false, cond, _&&_}
+use mathlib.Core.Bool.{Bool, true, false, not}
 use mathlib.Core.List.{List, [], _∷_, _++_, map, map-append, Forall₂, Forall₂·nil, Forall₂·cons}
 use Prim.Native.Nat.{ℕ, _+_, _-_, _*_, _%_, _^_, _<_, _≤_}
 use native.Mathlib.Nat.{add-mul, mul-le-mul-right}
 use native.Mathlib.Omega.{arith}
-use lib.Dec.{eqb}
+use lib.Dec.{eqb, ltb}
 use lib.ListN.{length, take, drop, length-map, length-append}
 use lib.Seq.{drop-at, length-take-le}
-use borrow.Author.Tests.{le-ltb, ne-eqb, ltb-true, leb-true}
+use borrow.Author.Tests.{le-ltb, ne-eqb, ltb-true, ltb-false}
 use Rattle.page_word.specs.Word.{isWord}
-use Rattle.answers.specs.Answers.{Said, refused, number, pageRead}
-use Rattle.answers.specs.declared.Refusal.the-variants.{Room, Wide}
+use Rattle.answers.specs.Choices.{if_then_else_}
+use Rattle.answers.specs.Answers.{Said, number, pageRead}
+use Rattle.answers.specs.declared.Refusal.the-variants.{Room, Wide, Mode}
 use Rattle.line_mode.specs.declared.modes.LineMode.{LineMode}
 use Rattle.line_reader.specs.declared.endings.Ending.the-variants.{Good}
 use Rattle.line_reader.specs.declared.reader.Reader.the-variants.{Fresh, Dropping}
 use Rattle.line_captures.specs.declared.captures.ReadOutcome.the-variants.{Attempt}
+use Rattle.line_mode.specs.declared.modes.Found.{Found}
 use Rattle.line_mode.specs.declared.modes.Found.the-variants.{Known, Unknown}
-use Rattle.line_mode.specs.Modes.{hsmMode, lsmMode, modeOf, saysBy, leavesBy}
+use Rattle.line_mode.specs.Modes.{hsmMode, lsmMode, modeOf, byMode}
 use Rattle.line_mode.specs.Clock.{timeBetween}
 use Rattle.line_page.specs.Pattern.{delimiterOf, hsmDelimiter, lsmDelimiter}
 use Rattle.line_page.proofs.Positions.{by-delimiter}
 use Rattle.line_writer.specs.Transitions.{transitions, sentBits, hasTransition, positionsTo, readingAt, readings, edgeCount}
-use Rattle.line_writer.specs.Writing.{hasRoom, placed, saysIn, leavesIn, writeSays, writeLeaves}
+use Rattle.line_writer.specs.Writing.{Written, kept, placed, writeIn, writeOf}
 use Rattle.line_captures.specs.Captures.{saidOfRead, opensAt, attemptOf, readIn, readBy, readOf}
 use Rattle.line_mode.proofs.Windows.{Apart, Near, hsm-apart, lsm-apart}
 use Rattle.line_writer.proofs.SentBits.{sent-length}
@@ -120,7 +122,7 @@ module _ (m : LineMode) (apart : Apart m) (clock : 4 * m .spacing < 2 ^ 32) (w f
       ∙ ap₂ (λ (x n : ℕ). Attempt (Good w) (opensAt m (Dropping x) rest (at + n))) (last-written m w first) (count-written m w first)
 
   -- and so it is by the read call at the place where the write call put it.
-  pub placed-read : (list : List ℕ) (place : ℕ) → edgeCount m w ≤ length list - place
+  pub placed-read : (list : List ℕ) (place : ℕ) → place + edgeCount m w ≤ length list
       → readIn m (placed m list place w first) place
       ≡ Attempt (Good w) (opensAt m (Dropping (readingAt (m .spacing) first 157)) (drop (place + edgeCount m w) list) (place + edgeCount m w))
   unfolding readIn
@@ -136,27 +138,33 @@ module _ (m : LineMode) (apart : Apart m) (clock : 4 * m .spacing < 2 ^ 32) (w f
 
 -- The two calls, in a mode's numbers: where the write call answers a number, the read call from the same place on answers the page.
 in-mode : (m : LineMode) → Apart m → 4 * m .spacing < 2 ^ 32 → (list : List ℕ) (place w first n : ℕ)
-    → saysIn m list place w ≡ number n → saidOfRead (readIn m (leavesIn m list place w first) place) ≡ pageRead w
-unfolding saysIn leavesIn
-in-mode m apart clock list place w first n h = by (isWord w) refl (hasRoom m list place w) refl h
+    → writeIn m list place w first .says ≡ number n → saidOfRead (readIn m (writeIn m list place w first .list) place) ≡ pageRead w
+unfolding writeIn
+in-mode m apart clock list place w first n h = by (isWord w) refl (ltb (length list) (place + edgeCount m w)) refl h
   where
-    by : (t : Bool) → isWord w ≡ t → (s : Bool) → hasRoom m list place w ≡ s
-        → cond t (cond s (number (edgeCount m w)) (refused Room)) (refused Wide) ≡ number n
-        → saidOfRead (readIn m (cond (t && s) (placed m list place w first) list) place) ≡ pageRead w
+    write : (t s : Bool) → Written
+    write t s = if not t then kept Wide list else if s then kept Room list else record { says = number (edgeCount m w); list = placed m list place w first }
+
+    by : (t : Bool) → isWord w ≡ t → (s : Bool) → ltb (length list) (place + edgeCount m w) ≡ s
+        → write t s .says ≡ number n → saidOfRead (readIn m (write t s .list) place) ≡ pageRead w
     by false e s f h = absurd (let k = ap (λ (a : Said). a .kind) h in omega arith)
-    by true e false f h = absurd (let k = ap (λ (a : Said). a .kind) h in omega arith)
-    by true e true f h =
-        ap saidOfRead (placed-read m apart clock w first (ltb-true w (2 ^ 48) e) list place (leb-true (edgeCount m w) (length list - place) f))
+    by true e true f h = absurd (let k = ap (λ (a : Said). a .kind) h in omega arith)
+    by true e false f h =
+        ap saidOfRead (placed-read m apart clock w first (ltb-true w (2 ^ 48) e) list place (ltb-false (length list) (place + edgeCount m w) f))
 
 -- The two calls, for every mode's number: a page that was written is read back from where it was written.
 pub write-then-read : (mode : ℕ) (list : List ℕ) (place w first n : ℕ)
-    → writeSays mode list place w ≡ number n → saidOfRead (readOf mode (writeLeaves mode list place w first) place) ≡ pageRead w
-unfolding writeSays writeLeaves readOf modeOf
+    → writeOf mode list place w first .says ≡ number n → saidOfRead (readOf mode (writeOf mode list place w first .list) place) ≡ pageRead w
+unfolding writeOf readOf modeOf
 write-then-read mode list place w first n h = by (eqb mode 0) (eqb mode 1) h
   where
-    by : (a b : Bool) → saysBy (cond a (Known hsmMode) (cond b (Known lsmMode) Unknown)) (λ m. saysIn m list place w) ≡ number n
-        → saidOfRead (readBy (cond a (Known hsmMode) (cond b (Known lsmMode) Unknown))
-        (leavesBy (cond a (Known hsmMode) (cond b (Known lsmMode) Unknown)) (λ m. leavesIn m list place w first) list) place) ≡ pageRead w
+    named : (a b : Bool) → Found
+    named a b = if a then Known hsmMode else if b then Known lsmMode else Unknown
+
+    write : (a b : Bool) → Written
+    write a b = byMode (named a b) (λ m. writeIn m list place w first) (kept Mode list)
+
+    by : (a b : Bool) → write a b .says ≡ number n → saidOfRead (readBy (named a b) (write a b .list) place) ≡ pageRead w
     by true b h = in-mode hsmMode hsm-apart (omega arith) list place w first n h
     by false true h = in-mode lsmMode lsm-apart (omega arith) list place w first n h
     by false false h = absurd (let k = ap (λ (a : Said). a .kind) h in omega arith)

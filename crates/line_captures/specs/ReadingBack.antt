@@ -11,7 +11,7 @@ use Rattle.line_mode.specs.declared.modes.LineMode.{LineMode}
 use Rattle.line_mode.specs.Clock.{timeBetween}
 use Rattle.line_mode.specs.Gaps.{within}
 use Rattle.line_writer.specs.Transitions.{transitions, readings, edgeCount}
-use Rattle.line_writer.specs.Writing.{writeSays, writeLeaves}
+use Rattle.line_writer.specs.Writing.{writeOf}
 use Rattle.line_reader.specs.declared.endings.Ending.{Ending}
 use Rattle.line_reader.specs.declared.endings.Ending.the-variants.{Good, Cut}
 use Rattle.line_reader.specs.declared.endings.Heard.{Heard}
@@ -99,7 +99,7 @@ pub record ReadingBack (mode : ℕ) (m : LineMode) : Type 0 where
   pub read-only : (capture : List ℕ) (place w : ℕ) → saidOfRead (readOf mode capture place) ≡ pageRead w → BeginsWith m w (drop place capture)
   -- What is written, at any place of any list with room for it and from any first reading on, is read back from that place.
   pub written : (list : List ℕ) (place w first : ℕ) → w < 2 ^ 48 → place + edgeCount m w ≤ length list
-      → (writeSays mode list place w ≡ number (edgeCount m w)) × (saidOfRead (readOf mode (writeLeaves mode list place w first) place) ≡ pageRead w)
+      → (writeOf mode list place w first .says ≡ number (edgeCount m w)) × (saidOfRead (readOf mode (writeOf mode list place w first .list) place) ≡ pageRead w)
   -- Reading goes forward and stays in the capture: inside it there is an attempt, and its next place,
   pub forward : (capture : List ℕ) (place : ℕ) → place < length capture
       → (ending : Ending) × (next : ℕ) × (readOf mode capture place ≡ Attempt ending next) × (place < next) × (next ≤ length capture)

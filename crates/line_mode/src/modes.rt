@@ -1,6 +1,8 @@
 // The two line modes, and how a gap is judged by a mode's numbers.
 ghost use mathlib.Core.Path.{_≡_};
+ghost use Rattle.answers.specs.Choices.{if_then_else_, _≤?_};
 ghost use Rattle.answers.specs.Answers.{said};
+ghost use Rattle.line_mode.specs.declared.modes.Judgement.the-variants.{Quiet, Unfit};
 ghost use Rattle.line_mode.specs.Modes.{hsmMode, lsmMode, modeOf};
 ghost use Rattle.line_mode.specs.Gaps.{judgementOf, saidOfGap, judged};
 use answers::Answer;
@@ -25,6 +27,16 @@ pub enum Judgement {
     Positions(u32),
     Quiet,
     Unfit,
+}
+
+// A gap that lies in no window.
+fn off_windows(gap: u32, quiet: u32) -> Judgement
+    ensures { λ r. ⌜ r ≡ (if quiet ≤? gap then Quiet else Unfit) ⌝ }
+{
+    if quiet <= gap {
+        return Judgement::Quiet;
+    }
+    Judgement::Unfit
 }
 
 impl LineMode {
@@ -80,10 +92,7 @@ impl LineMode {
         if fourth <= width {
             return Judgement::Positions(4);
         }
-        if self.quiet <= gap {
-            return Judgement::Quiet;
-        }
-        Judgement::Unfit
+        off_windows(gap, self.quiet)
     }
 }
 

@@ -6,32 +6,32 @@ use Prim.Native.Nat.{ℕ, _+_, _-_, _^_, _<_, _≤_}
 use native.Mathlib.Omega.{arith}
 use lib.ListN.{length, take, drop, length-drop, drop-of-length-le}
 use lib.Seq.{drop-drop}
-use borrow.Author.Tests.{lt-ltb, le-ltb, le-leb, lt-leb}
+use borrow.Author.Tests.{lt-ltb, le-ltb}
 use Rattle.answers.specs.Answers.{Said, refused, number}
 use Rattle.answers.specs.declared.Refusal.the-variants.{Room, Wide}
 use Rattle.line_mode.specs.declared.modes.LineMode.{LineMode}
 use Rattle.line_writer.specs.Transitions.{readings, edgeCount, transitions}
-use Rattle.line_writer.specs.Writing.{placed, saysIn, leavesIn}
+use Rattle.line_writer.specs.Writing.{placed, writeIn}
 use Rattle.line_writer.proofs.LentTail.{whole-tail}
 use Rattle.line_writer.proofs.EdgeCount.{edge-count}
 
 module _ (m : LineMode) (list : List ℕ) (place w first : ℕ) where
   -- What a call says and leaves.
   pub record Outcome (says : Said) (leaves : List ℕ) : Type 0 where
-    pub said : says ≡ saysIn m list place w
-    pub left : leaves ≡ leavesIn m list place w first
+    pub said : says ≡ writeIn m list place w first .says
+    pub left : leaves ≡ writeIn m list place w first .list
 
   pub wide : 2 ^ 48 ≤ w → Outcome (refused Wide) list
-  unfolding saysIn leavesIn
+  unfolding writeIn
   wide h = record { said = rw (le-ltb w (2 ^ 48) h); left = rw (le-ltb w (2 ^ 48) h) }
 
   module _ (fits : w < 2 ^ 48) where
-    short : length list - place < edgeCount m w → Outcome (refused Room) list
-    unfolding saysIn leavesIn
+    short : length list < place + edgeCount m w → Outcome (refused Room) list
+    unfolding writeIn
     short h =
         record {
-          said = rw (lt-ltb w (2 ^ 48) fits, lt-leb (edgeCount m w) (length list - place) h);
-          left = rw (lt-ltb w (2 ^ 48) fits, lt-leb (edgeCount m w) (length list - place) h);
+          said = rw (lt-ltb w (2 ^ 48) fits, lt-ltb (length list) (place + edgeCount m w) h);
+          left = rw (lt-ltb w (2 ^ 48) fits, lt-ltb (length list) (place + edgeCount m w) h);
         }
 
     -- A page has edgeCount, so a place past the end has no room.
@@ -50,7 +50,7 @@ module _ (m : LineMode) (list : List ℕ) (place w first : ℕ) where
     module _ (count : ℕ) (counted : count ≡ length (transitions m w)) where
       pub too-few : length list - place < count → Outcome (refused Room) list
       unfolding edgeCount
-      too-few h = short (subst (λ (n : ℕ). length list - place < n) counted h)
+      too-few h = short (subst (λ (n : ℕ). length list < place + n) counted (omega arith))
 
       module _ (room : count ≤ length list - place) where
         -- The part of the list that is lent is its tail, and has room for the page.
@@ -64,15 +64,15 @@ module _ (m : LineMode) (list : List ℕ) (place w first : ℕ) where
         -- Put back, it leaves the page in the list.
         pub written : (tail : List ℕ) → tail ≡ readings m w first ++ drop (edgeCount m w) (take (length list - place) (drop place list))
             → Outcome (number count) (take place list ++ (tail ++ drop (length list - place) (drop place list)))
-        unfolding saysIn leavesIn edgeCount
+        unfolding writeIn edgeCount
         written tail e =
             record {
-              said = rw (lt-ltb w (2 ^ 48) fits, le-leb (edgeCount m w) (length list - place) enough) (ap number counted);
-              left = rw (lt-ltb w (2 ^ 48) fits, le-leb (edgeCount m w) (length list - place) enough) put-back;
+              said = rw (lt-ltb w (2 ^ 48) fits, le-ltb (length list) (place + edgeCount m w) enough) (ap number counted);
+              left = rw (lt-ltb w (2 ^ 48) fits, le-ltb (length list) (place + edgeCount m w) enough) put-back;
             }
           where
-            enough : edgeCount m w ≤ length list - place
-            enough = omega arith
+            enough : place + edgeCount m w ≤ length list
+            enough = let e = has-edges in omega arith
 
             put-back : take place list ++ (tail ++ drop (length list - place) (drop place list)) ≡ placed m list place w first
             put-back =

@@ -6,7 +6,7 @@ ghost use lib.ListN.{length, drop};
 ghost use Rattle.answers.specs.Answers.{said};
 ghost use Rattle.page_check_bits.specs.CheckBits.{checkBits};
 ghost use Rattle.line_writer.specs.Transitions.{readings, edgeCount};
-ghost use Rattle.line_writer.specs.Writing.{saysIn, leavesIn, writeSays, writeLeaves};
+ghost use Rattle.line_writer.specs.Writing.{writeIn, writeOf};
 use crate::transitions::edge_count;
 use crate::transitions::transition_at;
 use answers::Answer;
@@ -37,8 +37,8 @@ fn write_page(tail: &mut [u32], mode: LineMode, word: u64, check: u32, first: u3
 
 // Writing in a mode whose numbers are known: Wide, Room, or the number of readings.
 fn write_in(list: &mut [u32], place: usize, mode: LineMode, word: u64, first: u32) -> Answer
-    ensures says { λ r. ⌜ said r ≡ saysIn mode (now (list .entry)) place word ⌝ }
-    ensures leaves { λ _. ⌜ now (list .exit) ≡ leavesIn mode (now (list .entry)) place word first ⌝ }
+    ensures says { λ r. ⌜ said r ≡ writeIn mode (now (list .entry)) place word first .says ⌝ }
+    ensures leaves { λ _. ⌜ now (list .exit) ≡ writeIn mode (now (list .entry)) place word first .list ⌝ }
 {
     if page_word::WIDE <= word {
         return Answer::Refused(Refusal::Wide);
@@ -59,8 +59,8 @@ fn write_in(list: &mut [u32], place: usize, mode: LineMode, word: u64, first: u3
 
 // Writes a page's readings into the list from a place on.
 pub fn write(list: &mut [u32], place: usize, mode: u32, word: u64, first: u32) -> Answer
-    ensures says { λ r. ⌜ said r ≡ writeSays mode (now (list .entry)) place word ⌝ }
-    ensures leaves { λ _. ⌜ now (list .exit) ≡ writeLeaves mode (now (list .entry)) place word first ⌝ }
+    ensures says { λ r. ⌜ said r ≡ writeOf mode (now (list .entry)) place word first .says ⌝ }
+    ensures leaves { λ _. ⌜ now (list .exit) ≡ writeOf mode (now (list .entry)) place word first .list ⌝ }
 {
     match mode_of(mode) {
         Found::Known(m) => write_in(list, place, m, word, first),

@@ -1,6 +1,6 @@
 -- 01, "The page": "A word is D0 + 2·D1 + ... + 2^47·D47."
 use Prim.Native.Nat.{ℕ, zero, suc, _/_, _%_, _^_}
-use mathlib.Core.Bool.{Bool}
+use mathlib.Core.Bool.{Bool, false, _||_}
 use mathlib.Core.List.{List, [], _∷_}
 use lib.Dec.{eqb, ltb}
 
@@ -20,3 +20,8 @@ bitsOf (suc n) w = odd w ∷ bitsOf n (w / 2)
 -- Whether a number is a word at all. Row 13 of the refusals, Wide, is the contrary: "word 2^48 or more".
 abbrev pub isWord : ℕ → Bool
 isWord w = ltb w (2 ^ 48)
+
+-- Whether a number is one of a list's.
+abbrev pub among : (number : ℕ) (list : List ℕ) → Bool
+among p [] = false
+among p (q ∷ rest) = eqb p q || among p rest

@@ -1,7 +1,6 @@
 -- How far the gap reaches into each window, place by place; each return is then what its tests say of the windows so far.
 use native.Mathlib.Omega.{arith}
 use borrow.Author.Needs.{needs}
-use borrow.Author.Tests.{le-leb, lt-leb}
 use Rattle.line_mode.specs.Gaps.{judgementOf}
 use Rattle.line_mode.proofs.Wrapped.{Into, first-window, second-window, third-window, fourth-window, in-window, off-window}
 use Rattle.line_mode.proofs.modes.LineMode.judgement.Statement.{statement}
@@ -58,20 +57,11 @@ returns-4 c =
 returns-5 : tie.Need-returns-5
 unfolding judgementOf
 returns-5 c =
-    let four = c .before .before in
+    let four = c .before in
     let three = four .before .before in
     let two = three .before .before in
     let one = two .before .before in
-    rw (off-window (first (one .before)) (one .if1 .left), off-window (second (two .before)) (two .if2 .left), off-window (third (three .before)) (three .if3 .left), off-window (fourth (four .before)) (four .if4 .left), le-leb _ _ (c .if5 .taken))
-
-returns-6 : tie.Need-returns-6
-unfolding judgementOf
-returns-6 c =
-    let four = c .before .before in
-    let three = four .before .before in
-    let two = three .before .before in
-    let one = two .before .before in
-    rw (off-window (first (one .before)) (one .if1 .left), off-window (second (two .before)) (two .if2 .left), off-window (third (three .before)) (three .if3 .left), off-window (fourth (four .before)) (four .if4 .left), lt-leb _ _ (c .if5 .left))
+    rw (off-window (first (one .before)) (one .if1 .left), off-window (second (two .before)) (two .if2 .left), off-window (third (three .before)) (three .if3 .left), off-window (fourth (four .before)) (four .if4 .left)) (c .off-windows .ensures)
 
 pub judgement-spec : {M : Type 1} → statement M
 judgement-spec =
@@ -89,5 +79,5 @@ judgement-spec =
     returns-3
     (λ c κs. search needs)
     returns-4
-    returns-5
-    returns-6)
+    (λ c κs. search needs)
+    returns-5)
