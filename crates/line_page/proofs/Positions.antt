@@ -2,16 +2,19 @@
 -- the end. What a law says of both delimiters holds of every mode.
 use mathlib.Core.Path.{_≡_, refl}
 use mathlib.Core.Bool.{Bool, true, false, and-false}
-use mathlib.Core.List.{List, [], _∷_}
+use mathlib.Core.List.{[], _∷_, _++_}
 use Prim.Native.Nat.{ℕ, _%_, _<_, _≤_}
 use native.Mathlib.Omega.{arith}
 use lib.Dec.{leb, eqb}
 use borrow.Author.Tests.{leb-true, leb-false, eqb-false, le-leb, lt-leb, eq-eqb, ne-eqb}
 use Rattle.answers.specs.Choices.{if_then_else_}
-use Rattle.page_word.specs.Lists.{among}
-use Rattle.page_word.specs.Word.{odd}
+use Rattle.page_word.specs.Word.{odd, among}
 use Rattle.line_mode.specs.declared.modes.LineMode.{LineMode}
-use Rattle.line_page.specs.Pattern.{delimiterOf, isClock, isBit, Stands, always, byBit, never, standsAt}
+use Rattle.line_page.specs.Pattern.{delimiterOf, maskOf, isClock, isBit, Stands, always, byBit, never, standsAt}
+
+-- The mask of a mode's delimiter and of the first clock.
+abbrev pub startOf : LineMode → ℕ
+startOf m = maskOf (delimiterOf m ++ (27 ∷ []))
 
 -- A mode, by its delimiter.
 pub by-delimiter : (P : LineMode → Type 0)

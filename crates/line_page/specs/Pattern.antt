@@ -1,10 +1,9 @@
 -- 01, "The line": "A page has 157 evenly spaced positions." What stands at each of them.
 use Prim.Native.Nat.{ℕ, _+_, _^_}
-use mathlib.Core.Bool.{Bool, not, _&&_}
-use mathlib.Core.List.{List, [], _∷_, _++_}
+use mathlib.Core.Bool.{Bool, true, false, not, _&&_}
+use mathlib.Core.List.{List, [], _∷_}
 use Rattle.answers.specs.Choices.{if_then_else_, _≤?_}
-use Rattle.page_word.specs.Lists.{among}
-use Rattle.page_word.specs.Word.{odd}
+use Rattle.page_word.specs.Word.{odd, among}
 use Rattle.line_mode.specs.declared.modes.LineMode.{LineMode}
 
 -- "Delimiter transitions among 1-26", and of these "HSM: 1, 2, 3, 5, 7, 8, 12, 13, 14, 15, 19, 21, 24, 25, 26"
@@ -42,10 +41,13 @@ standsAt mode p =
     else if among p (155 ∷ 157 ∷ []) then always
     else never
 
--- The delimiter and the first clock, 27, as a number: bit p is one where one of these stands at p.
+-- Whether a page has a transition where this stands, by the bit that stands there.
+abbrev pub has : Stands → (bit : Bool) → Bool
+has always bit = true
+has byBit bit = bit
+has never bit = false
+
+-- A list of positions as a number: bit p is one where p is in the list.
 abbrev pub maskOf : List ℕ → ℕ
 maskOf [] = 0
 maskOf (p ∷ rest) = 2 ^ p + maskOf rest
-
-abbrev pub startOf : LineMode → ℕ
-startOf mode = maskOf (delimiterOf mode ++ (27 ∷ []))

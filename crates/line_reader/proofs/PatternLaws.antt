@@ -13,9 +13,9 @@ use Rattle.page_word.proofs.ComputedTest.{everyBelow, at-each, beq-equal}
 use Rattle.line_mode.specs.declared.modes.LineMode.{LineMode}
 use Rattle.line_mode.specs.declared.modes.Judgement.the-variants.{Positions, Quiet, Unfit}
 use Rattle.line_mode.specs.Gaps.{within, judgementOf}
-use Rattle.line_page.specs.Pattern.{isClock, isBit, always, standsAt, startOf}
-use Rattle.line_page.proofs.Positions.{by-delimiter, at-odd, at-even, at-none}
-use Rattle.line_reader.specs.Pattern.{may, must, free, asks}
+use Rattle.line_page.specs.Pattern.{isClock, isBit, always, standsAt, has}
+use Rattle.line_page.proofs.Positions.{startOf, by-delimiter, at-odd, at-even, at-none}
+use Rattle.line_reader.specs.Pattern.{free, asks}
 
 -- A number from 1 to 4.
 pub record Small (k : ℕ) : Type 0 where
@@ -53,16 +53,16 @@ blocked m p zero j h l a = absurd (omega arith)
 blocked m p (suc n) j h l a = by (blocked m p n j h) (eqb j (suc n)) refl
   where
     by : (j ≤ n → standsAt m (p + j) ≡ always → free m p n ≡ false) → (t : Bool) → eqb j (suc n) ≡ t
-        → (not (must (standsAt m (p + suc n))) && free m p n) ≡ false
+        → (not (has (standsAt m (p + suc n)) false) && free m p n) ≡ false
     by ih true e = rw (sym (ap (λ (i : ℕ). standsAt m (p + i)) (eqb-true j (suc n) e)) ∙ a)
     by ih false e =
         let ne = eqb-false j (suc n) e in
-        rw (ih (omega arith) a) (and-false (not (must (standsAt m (p + suc n)))))
+        rw (ih (omega arith) a) (and-false (not (has (standsAt m (p + suc n)) false)))
 
 ruled-out : (m : LineMode) (at k j : ℕ) → 1 ≤ j → j ≤ k - 1 → standsAt m (at + j) ≡ always → asks m at k ≡ false
 unfolding asks
 ruled-out m at k j h l a =
-    rw (blocked m at (k - 1) j h l a, and-false (may (standsAt m (at + k)))) (and-false (may (standsAt m at)))
+    rw (blocked m at (k - 1) j h l a, and-false (has (standsAt m (at + k)) true)) (and-false (has (standsAt m at) true))
 
 module _ (m : LineMode) (at k : ℕ) (s : Small k) where
   -- After a bit's own edge comes the next clock.
@@ -125,7 +125,7 @@ module _ (m : LineMode) (at k : ℕ) (s : Small k) where
       by : (t : Bool) → eqb at 157 ≡ t → asks m at k ≡ false
       by true q =
           let e = eqb-true at 157 q in
-          rw (at-none m (at + k) (omega arith) (λ o. omega arith) (λ o. omega arith)) (and-false (may (standsAt m at)))
+          rw (at-none m (at + k) (omega arith) (λ o. omega arith) (λ o. omega arith)) (and-false (has (standsAt m at) true))
       by false q = rw (at-none m at (omega arith) (λ o. omega arith) (eqb-false at 157 q))
 
 -- What the code's shifts give.

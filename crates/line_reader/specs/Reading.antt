@@ -1,8 +1,7 @@
 -- 01, "The line": "Reading goes edge by edge."
 use Prim.Native.Nat.{ℕ, _+_, _/_, _%_, _^_}
-use mathlib.Core.List.{List, [], _∷_, map}
+use mathlib.Core.List.{List, [], _∷_}
 use Rattle.answers.specs.Choices.{if_then_else_, _=?_}
-use Rattle.answers.specs.Answers.{Said}
 use Rattle.page_check_bits.specs.CheckBits.{agrees}
 use Rattle.line_mode.specs.declared.modes.LineMode.{LineMode}
 use Rattle.line_mode.specs.declared.modes.Judgement.{Judgement}
@@ -17,7 +16,6 @@ use Rattle.line_reader.specs.declared.reader.Step.{Step}
 use Rattle.line_mode.specs.Clock.{timeBetween}
 use Rattle.line_mode.specs.Gaps.{judgementOf}
 use Rattle.line_page.specs.Pattern.{isClock}
-use Rattle.line_reader.specs.Endings.{saidOfHeard}
 use Rattle.line_reader.specs.Pattern.{asks}
 
 -- What an edge brings: what is heard of it, and the reader afterwards.
@@ -64,10 +62,6 @@ edgeOf mode (Dropping last) reading = dropsOn reading (judgementOf mode (timeBet
 abbrev pub heardAlong : (mode : LineMode) (reader : Reader) (readings : List ℕ) → List Heard
 heardAlong mode reader [] = []
 heardAlong mode reader (x ∷ rest) = edgeOf mode reader x .heard ∷ heardAlong mode (edgeOf mode reader x .reader) rest
-
--- what is said at each,
-abbrev pub saidAlong : (mode : LineMode) (reader : Reader) (readings : List ℕ) → List Said
-saidAlong mode reader readings = map saidOfHeard (heardAlong mode reader readings)
 
 -- and the reader after all of them.
 abbrev pub readerAfter : (mode : LineMode) (reader : Reader) (readings : List ℕ) → Reader

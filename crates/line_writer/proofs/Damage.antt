@@ -12,7 +12,7 @@ use borrow.Author.Tests.{ltb-true, ltb-false, eqb-true, eqb-false, ne-eqb}
 use Rattle.page_check_bits.proofs.BinaryNumbers.{bit}
 use Rattle.page_check_bits.proofs.Polynomials.{xor-self}
 use Rattle.page_check_bits.proofs.Strength.{differing, AgreeOutside, Apart, bitAt, strength}
-use Rattle.page_word.specs.Lists.{among}
+use Rattle.page_word.specs.Word.{among}
 use Rattle.line_mode.specs.declared.modes.LineMode.{LineMode}
 use Rattle.line_page.specs.Pattern.{delimiterOf}
 use Rattle.line_page.proofs.Positions.{by-delimiter}

@@ -6,15 +6,14 @@ use Prim.Native.Nat.{ℕ, _+_, _-_, _/_, _%_, _^_, _<_, _≤_}
 use native.Mathlib.Omega.{arith}
 use lib.ListN.{getD}
 use Rattle.answers.specs.Choices.{if_then_else_}
-use Rattle.page_word.specs.Lists.{among}
-use Rattle.page_word.specs.Word.{odd}
+use Rattle.page_word.specs.Word.{odd, among}
 use Rattle.page_word.proofs.ComputedTest.{everyBelow, at-each, beq-equal}
 use Rattle.page_check_bits.specs.CheckBits.{checkBits}
 use Rattle.line_mode.specs.declared.modes.LineMode.{LineMode}
-use Rattle.line_page.specs.Pattern.{always, never, delimiterOf, startOf}
-use Rattle.line_page.proofs.Positions.{by-delimiter, at-odd, at-even, at-none}
+use Rattle.line_page.specs.Pattern.{always, never, has, delimiterOf}
+use Rattle.line_page.proofs.Positions.{startOf, by-delimiter, at-odd, at-even, at-none}
 use Rattle.line_page.proofs.Positions as positions
-use Rattle.line_writer.specs.Transitions.{has, hasTransition, sentBits}
+use Rattle.line_writer.specs.Transitions.{hasTransition, sentBits}
 use Rattle.line_writer.proofs.SentBits.{data-bit, check-bit}
 
 module _ (m : LineMode) (bits : List Bool) (p : ℕ) where

@@ -1,23 +1,17 @@
 -- 01, "The line": where a page's transitions are, and when.
 use Prim.Native.Nat.{ℕ, zero, suc, _+_, _-_, _*_, _/_, _%_, _^_}
-use mathlib.Core.Bool.{Bool, true, false}
+use mathlib.Core.Bool.{Bool, false}
 use mathlib.Core.List.{List, [], _∷_, _++_, map}
 use lib.ListN.{length, getD}
 use Rattle.answers.specs.Choices.{if_then_else_}
 use Rattle.page_word.specs.Word.{bitsOf}
 use Rattle.page_check_bits.specs.CheckBits.{checkList}
 use Rattle.line_mode.specs.declared.modes.LineMode.{LineMode}
-use Rattle.line_page.specs.Pattern.{Stands, always, byBit, never, standsAt}
+use Rattle.line_page.specs.Pattern.{standsAt, has}
 
 -- "D0 to D47, then S15 to S0"
 unfoldable pub sentBits : (word : ℕ) → List Bool
 sentBits w = bitsOf 48 w ++ checkList w
-
--- Whether there is a transition, by what stands there and the bit: "for a one bit".
-abbrev pub has : Stands → (bit : Bool) → Bool
-has always bit = true
-has byBit bit = bit
-has never bit = false
 
 -- Whether a page with these 64 bits has a transition at a position. The first bit stands at 28, and each other two positions after the last.
 unfoldable pub hasTransition : (mode : LineMode) (bits : List Bool) (position : ℕ) → Bool

@@ -4,9 +4,6 @@ use borrow.Author.Needs.{needs}
 use Rattle.drive.proofs.calls.read.Statement.{statement}
 use Rattle.drive.proofs.calls.read.Tie as tie
 
-slice-aggregate-read : tie.Need-slice-aggregate-read
-slice-aggregate-read c = sym (length-take-le _ _ (search needs))
-
 pub read-spec : {M : Type 1} → statement M
 read-spec =
     tie.close
@@ -18,9 +15,11 @@ read-spec =
     (λ c. search needs)
     (λ c. search needs)
     (λ c. search needs)
-    slice-aggregate-read
+    (λ c. sym (length-take-le _ _ (search needs)))
     (λ c. search needs)
     (λ c. search needs)
+    (λ c κs. search needs)
+    (λ c κs. search needs)
     (λ c κs. search needs)
     (λ c κs. search needs)
     (λ c κs. search needs)
