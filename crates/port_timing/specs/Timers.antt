@@ -6,7 +6,7 @@ use Rattle.answers.specs.Choices.{if_then_else_, _≤?_, _=?_}
 use Rattle.page_resolve.specs.declared.resolving.Resolution.the-variants.{Refused, Settled}
 use Rattle.line_mode.specs.Clock.{timeBetween}
 use Rattle.line_mode.specs.Modes.{lsmMode}
-use Rattle.page_word.specs.Lists.{among}
+use Rattle.page_word.specs.Word.{among}
 use Rattle.port_state.specs.declared.Outcome.{Outcome}
 use Rattle.port_state.specs.declared.Outcome.the-variants.{NoneYet, Resolved}
 use Rattle.port_timing.specs.declared.profile.Profile.{Profile}

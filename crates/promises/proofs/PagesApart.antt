@@ -8,7 +8,7 @@ use Rattle.page_word.specs.Word.{bitsOf}
 use Rattle.page_check_bits.specs.CheckBits.{plus, checkList}
 use Rattle.page_check_bits.proofs.Remainders.{scaled, times, quotient, divisible, no-other}
 use Rattle.page_check_bits.proofs.Strength.{differing}
-use Rattle.page_word.specs.Lists.{among}
+use Rattle.page_word.specs.Word.{among}
 use Rattle.line_mode.specs.declared.modes.LineMode.{LineMode}
 use Rattle.line_writer.specs.Transitions.{transitions}
 use Rattle.line_writer.proofs.Damage.{hasAt, pages-apart}
