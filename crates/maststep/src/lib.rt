@@ -4,7 +4,7 @@ ghost use Rattle.answers.specs.Answers.{packed};
 ghost use Rattle.page_check_bits.specs.Checked.{checked};
 ghost use Rattle.page_resolve.specs.Resolving.{resolveSays};
 ghost use Rattle.line_mode.specs.Gaps.{judged};
-ghost use Rattle.line_writer.specs.Writing.{writeSays, writeLeaves};
+ghost use Rattle.line_writer.specs.Writing.{writeOf};
 ghost use Rattle.line_captures.specs.Captures.{saidOfRead, readOf};
 ghost use Rattle.port_step.specs.Runs.{runSays, runLeaves};
 ghost use Rattle.maststep.specs.NextPlace.{nextLeft};
@@ -43,8 +43,8 @@ pub extern "C" fn maststep_write(
     word: u64,
     first: u32,
 ) -> u64
-    ensures says { λ r. ⌜ r ≡ packed (writeSays mode (now (list .entry)) place word) ⌝ }
-    ensures leaves { λ _. ⌜ now (list .exit) ≡ writeLeaves mode (now (list .entry)) place word first ⌝ }
+    ensures says { λ r. ⌜ r ≡ packed (writeOf mode (now (list .entry)) place word first .says) ⌝ }
+    ensures leaves { λ _. ⌜ now (list .exit) ≡ writeOf mode (now (list .entry)) place word first .list ⌝ }
 {
     line_writer::write(list, place, mode, word, first).packed()
 }
