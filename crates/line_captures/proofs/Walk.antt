@@ -25,12 +25,12 @@ use Rattle.line_reader.specs.declared.reader.Reader.{Reader}
 use Rattle.line_reader.specs.declared.reader.Reader.the-variants.{Fresh, Open, Dropping}
 use Rattle.line_mode.specs.Clock.{timeBetween}
 use Rattle.line_mode.specs.Gaps.{judgementOf}
-use Rattle.line_mode.specs.Modes.{modeOf}
+use Rattle.line_mode.specs.Modes.{modeOf, byMode}
 use Rattle.line_reader.specs.Pattern.{asks}
 use Rattle.line_reader.specs.Reading.{step, withBit, arrives, goesOn, dropsOn, edgeOf, heardAlong, readerAfter}
 use Rattle.line_captures.specs.declared.captures.ReadOutcome.{ReadOutcome}
-use Rattle.line_captures.specs.declared.captures.ReadOutcome.the-variants.{PastTheEnd, AtTheEnd, Attempt}
-use Rattle.line_captures.specs.Captures.{opensAt, attemptOf, readIn, readBy, readOf, onwards, attemptsFrom}
+use Rattle.line_captures.specs.declared.captures.ReadOutcome.the-variants.{UnknownMode, PastTheEnd, AtTheEnd, Attempt}
+use Rattle.line_captures.specs.Captures.{opensAt, attemptOf, readIn, readOf, onwards, attemptsFrom}
 use Rattle.line_captures.specs.ReadingBack.{endings, endsOpen}
 
 -- How every attempt of a list of edges ends that a reader takes, as it tells them edge by edge.
@@ -233,7 +233,7 @@ walk-step m capture place h =
 -- The call by a mode's number is that in the mode which it names.
 pub read-known : (mode : ℕ) (m : LineMode) (capture : List ℕ) (place : ℕ) → modeOf mode ≡ Known m → readOf mode capture place ≡ readIn m capture place
 unfolding readOf
-read-known mode m capture place known = ap (λ (f : Found). readBy f capture place) known
+read-known mode m capture place known = ap (λ (f : Found). byMode f (λ n. readIn n capture place) UnknownMode) known
 
 -- At the end of a capture, or past it, no attempt is left.
 module _ (m : LineMode) (capture : List ℕ) (place : ℕ) (h : length capture ≤ place) where
@@ -266,7 +266,7 @@ attempt-forward mode capture place ending next h = by (modeOf mode) h
         let none = none-read m capture place (ltb-false place (length capture) e) (λ n. []) in
         absurd (let z : ending ∷ [] ≡ [] = ap (λ (o : ReadOutcome). onwards o (λ n. [])) (sym h) ∙ none in let l = ap length z in omega arith)
 
-    by : (f : Found) → readBy f capture place ≡ Attempt ending next → (place < next) × (next ≤ length capture)
+    by : (f : Found) → byMode f (λ m. readIn m capture place) UnknownMode ≡ Attempt ending next → (place < next) × (next ≤ length capture)
     by Unknown h = absurd (let z : _≡_ {A = ℕ} 0 1 = cc h in omega arith)
     by (Known m) h = inside m h (ltb place (length capture)) refl
 

@@ -17,7 +17,7 @@ use Rattle.answers.specs.declared.Refusal.the-variants.{Room, Wide, Mode}
 use Rattle.line_mode.specs.declared.modes.LineMode.{LineMode}
 use Rattle.line_reader.specs.declared.endings.Ending.the-variants.{Good}
 use Rattle.line_reader.specs.declared.reader.Reader.the-variants.{Fresh, Dropping}
-use Rattle.line_captures.specs.declared.captures.ReadOutcome.the-variants.{Attempt}
+use Rattle.line_captures.specs.declared.captures.ReadOutcome.the-variants.{UnknownMode, Attempt}
 use Rattle.line_mode.specs.declared.modes.Found.{Found}
 use Rattle.line_mode.specs.declared.modes.Found.the-variants.{Known, Unknown}
 use Rattle.line_mode.specs.Modes.{hsmMode, lsmMode, modeOf, byMode}
@@ -26,7 +26,7 @@ use Rattle.line_page.specs.Pattern.{delimiterOf, hsmDelimiter, lsmDelimiter}
 use Rattle.line_page.proofs.Positions.{by-delimiter}
 use Rattle.line_writer.specs.Transitions.{transitions, sentBits, hasTransition, positionsTo, readingAt, readings, edgeCount}
 use Rattle.line_writer.specs.Writing.{placed, writeIn, writeOf}
-use Rattle.line_captures.specs.Captures.{saidOfRead, opensAt, attemptOf, readIn, readBy, readOf}
+use Rattle.line_captures.specs.Captures.{saidOfRead, opensAt, attemptOf, readIn, readOf}
 use Rattle.line_mode.proofs.Windows.{Apart, Near, hsm-apart, lsm-apart}
 use Rattle.line_writer.proofs.SentBits.{sent-length}
 use Rattle.line_writer.proofs.PagePattern.{at-clock}
@@ -164,7 +164,7 @@ write-then-read mode list place w first n h = by (eqb mode 0) (eqb mode 1) h
     write : (a b : Bool) → Leaves
     write a b = byMode (named a b) (λ m. writeIn m list place w first) (kept Mode list)
 
-    by : (a b : Bool) → write a b .says ≡ number n → saidOfRead (readBy (named a b) (write a b .list) place) ≡ pageRead w
+    by : (a b : Bool) → write a b .says ≡ number n → saidOfRead (byMode (named a b) (λ m. readIn m (write a b .list) place) UnknownMode) ≡ pageRead w
     by true b h = in-mode hsmMode hsm-apart (omega arith) list place w first n h
     by false true h = in-mode lsmMode lsm-apart (omega arith) list place w first n h
     by false false h = absurd (let k = ap (λ (a : Said). a .kind) h in omega arith)

@@ -7,8 +7,6 @@ use Rattle.answers.specs.Choices.{if_then_else_, _<?_, _=?_}
 use Rattle.answers.specs.Answers.{Said, nothing, refused}
 use Rattle.answers.specs.declared.Refusal.the-variants as refusal
 use Rattle.line_mode.specs.declared.modes.LineMode.{LineMode}
-use Rattle.line_mode.specs.declared.modes.Found.{Found}
-use Rattle.line_mode.specs.declared.modes.Found.the-variants.{Known, Unknown}
 use Rattle.line_reader.specs.declared.endings.Ending.{Ending}
 use Rattle.line_reader.specs.declared.endings.Ending.the-variants.{Cut}
 use Rattle.line_reader.specs.declared.endings.Heard.{Heard}
@@ -17,7 +15,7 @@ use Rattle.line_reader.specs.declared.reader.Reader.{Reader}
 use Rattle.line_reader.specs.declared.reader.Reader.the-variants.{Fresh, Open, Dropping}
 use Rattle.line_captures.specs.declared.captures.ReadOutcome.{ReadOutcome}
 use Rattle.line_captures.specs.declared.captures.ReadOutcome.the-variants.{UnknownMode, PastTheEnd, AtTheEnd, Attempt}
-use Rattle.line_mode.specs.Modes.{modeOf}
+use Rattle.line_mode.specs.Modes.{modeOf, byMode}
 use Rattle.line_reader.specs.Endings.{saidOfEnding}
 use Rattle.line_reader.specs.Reading.{edgeOf}
 
@@ -65,12 +63,8 @@ readIn mode capture place =
     else attemptOf mode Fresh (drop place capture) place
 
 -- and by the mode's number.
-abbrev pub readBy : (mode : Found) (capture : List ℕ) (place : ℕ) → ReadOutcome
-readBy (Known mode) capture place = readIn mode capture place
-readBy Unknown capture place = UnknownMode
-
 unfoldable pub readOf : (mode : ℕ) (capture : List ℕ) (place : ℕ) → ReadOutcome
-readOf mode capture place = readBy (modeOf mode) capture place
+readOf mode capture place = byMode (modeOf mode) (λ m. readIn m capture place) UnknownMode
 
 -- How each attempt of a capture ends, in order: the read call goes from place to next place, until it brings no attempt. The first argument
 -- bounds the number of calls; each next place is greater than the place, so as many as there are readings suffice.

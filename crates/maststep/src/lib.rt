@@ -1,7 +1,7 @@
 // The C functions of the static library, thin over the crates: each gives the answer as one number. include/maststep.h declares them.
 ghost use mathlib.Core.Path.{_≡_};
 ghost use Rattle.answers.specs.Answers.{packed};
-ghost use Rattle.page_check_bits.specs.Checked.{checked};
+ghost use Rattle.page_check_bits.specs.CheckBits.{checked};
 ghost use Rattle.page_resolve.specs.Resolving.{resolveSays};
 ghost use Rattle.line_mode.specs.Gaps.{judged};
 ghost use Rattle.line_writer.specs.Writing.{writeOf};

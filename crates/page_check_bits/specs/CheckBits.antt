@@ -6,7 +6,9 @@ use mathlib.Core.Bool.{Bool, true, false, xor}
 use mathlib.Core.List.{List, [], _∷_, _++_}
 use lib.ListN.{length, replicate, drop}
 use Rattle.answers.specs.Choices.{if_then_else_, _=?_}
-use Rattle.page_word.specs.Word.{bitsOf}
+use Rattle.page_word.specs.Word.{bitsOf, isWide}
+use Rattle.answers.specs.Answers.{Said, refused, number}
+use Rattle.answers.specs.declared.Refusal.the-variants.{Wide}
 
 -- Adding two polynomials that begin at the same power, coefficient by coefficient without carry; what the shorter lacks
 -- at its end is zero. Taking one away from the other is the same.
@@ -48,3 +50,8 @@ checkBits w = numeral (checkList w)
 -- Whether 64 bits, the first that came the lowest, are a word and its check bits: "good if the check bits agree".
 unfoldable pub agrees : (bits : ℕ) → Bool
 agrees bits = numeral (drop 48 (bitsOf 64 bits)) =? checkBits bits
+
+-- The check call. 01, "Refusal numbers", row 13, Wide.
+-- The check bits of a word; Wide if it is none.
+abbrev pub checked : (word : ℕ) → Said
+checked word = if isWide word then refused Wide else number (checkBits word)

@@ -1,2 +1,1 @@
 pub mod CheckBits
-pub mod Checked

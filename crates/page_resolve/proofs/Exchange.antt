@@ -7,7 +7,7 @@ use Prim.Native.Nat.{ℕ}
 use native.Mathlib.Omega.{arith}
 use lib.Dec.{eqb, ltb}
 use borrow.Author.Tests.{eq-eqb, ne-eqb, eqb-true, eqb-false, ltb-true, ltb-false, lt-ltb, le-ltb}
-use Rattle.page_word.specs.Fields.{fieldOf}
+use Rattle.page_word.specs.Fields.{fieldOf, hasOtherSelector, isTie}
 use Rattle.page_word.specs.declared.fields.Field.the-variants.{Nonce}
 use Rattle.page_resolve.specs.declared.resolving.Resolution.{Resolution}
 use Rattle.page_resolve.specs.declared.resolving.Resolution.the-variants.{Refused, Settled}
@@ -19,7 +19,6 @@ use Rattle.page_resolve.specs.declared.roles.Role.the-variants.{Master, 
 use Rattle.page_resolve.specs.Rates.{hasAbility, commonOf, firstOf}
 use Rattle.page_resolve.specs.Roles.{isForced, hasT4, isHigher, masterIf, bothForced, roleBy, roleOf}
 use Rattle.page_word.specs.Word.{isWide}
-use Rattle.page_word.specs.Fields.{hasOtherSelector, isTie}
 use Rattle.page_resolve.specs.Resolving.{settledBy, resolutionOf}
 
 -- What the other end answers.

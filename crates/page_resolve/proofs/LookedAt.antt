@@ -7,13 +7,12 @@ use native.Mathlib.Omega.{arith}
 use lib.Dec.{eqb, ltb}
 use lib.ListN.{length, getD}
 use borrow.Author.Tests.{lt-leb}
-use Rattle.page_word.specs.Word.{isWide}
+use Rattle.page_word.specs.Word.{isWide, hasBit}
 use Rattle.page_word.specs.Fields.{fieldOf, withField}
 use Rattle.page_word.specs.declared.fields.Field.{Field}
 use Rattle.page_word.specs.declared.fields.Field.the-variants.{Selector, EchoedNonce, Pause, ForcedRole, RemoteFault, Ack, NextPage, Nonce, Abilities}
 use Rattle.page_word.proofs.FieldLaws.{rank, set-keeps, set-stays-word}
 use Rattle.page_resolve.specs.Rates.{hasAbility, commonOf}
-use Rattle.page_word.specs.Word.{hasBit}
 use Rattle.page_resolve.specs.Roles.{isForced, hasT4, masterIf, bothForced, roleBy, roleOf}
 use Rattle.page_resolve.specs.Resolving.{resolutionOf}
 use Rattle.page_resolve.proofs.Exchange.{opposite, exchanged}

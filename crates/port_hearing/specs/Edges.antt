@@ -1,6 +1,6 @@
 -- 01, "The negotiation (LSM)": the edge event, and what a good page does in each state.
 use Prim.Native.Nat.{ℕ}
-use mathlib.Core.Bool.{Bool, true, false, not, _&&_, _||_}
+use mathlib.Core.Bool.{Bool, true, not, _&&_, _||_}
 use Rattle.answers.specs.declared.Refusal.the-variants as refusal
 use Rattle.answers.specs.Choices.{if_then_else_, _=?_}
 use Rattle.answers.specs.Answers.{nothing, refused, pageRead}
@@ -16,7 +16,7 @@ use Rattle.port_state.specs.declared.State.{State}
 use Rattle.port_state.specs.declared.State.the-variants.{Off, Break, Ability, Ack, Complete, CheckLink, Up}
 use Rattle.port_state.specs.declared.Device.{Device}
 use Rattle.port_state.specs.PageRegisters.{registersOf}
-use Rattle.port_state.specs.Memory.{Due, due, intoBreak}
+use Rattle.port_state.specs.Memory.{Due, due, isTalking, intoBreak}
 use Rattle.port_state.specs.Changes.{withState, withPartner, withFlags, withHeld, withCount, withMark, withReader}
 
 -- "hold it, mark "heard" at its last edge, to Ack"
@@ -85,16 +85,6 @@ hears (Ended Check) reading d = due (refused refusal.Check) d
 -- The reader moves first.
 abbrev pub listened : Step → (reading : ℕ) → Device → Due
 listened step reading d = hears (step .heard) reading (withReader (step .reader) d)
-
--- The states in which pages are heard and ordered: "In Ability, Ack and Complete".
-abbrev pub isTalking : State → Bool
-isTalking Off = false
-isTalking Break = false
-isTalking Ability = true
-isTalking Ack = true
-isTalking Complete = true
-isTalking CheckLink = false
-isTalking Up = false
 
 -- In Off and Break, Check-link and Up edges are ignored, and "While a page is out, edges are ignored."
 unfoldable pub edgeDue : LineMode → (reading : ℕ) → Device → Due

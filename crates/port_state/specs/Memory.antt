@@ -27,23 +27,28 @@ pub record Meets (r : Reply) (d : Due) : Type 0 where
 abbrev pub due : Said → Device → Due
 due says device = record { says = says; device = device }
 
+-- A choice by state.
+abbrev pub byState : {A : Type 0} → State → (off break ability ack complete checkLink up : A) → A
+byState Off off break ability ack complete checkLink up = off
+byState Break off break ability ack complete checkLink up = break
+byState Ability off break ability ack complete checkLink up = ability
+byState Ack off break ability ack complete checkLink up = ack
+byState Complete off break ability ack complete checkLink up = complete
+byState CheckLink off break ability ack complete checkLink up = checkLink
+byState Up off break ability ack complete checkLink up = up
+
 abbrev pub isOff : State → Bool
-isOff Off = true
-isOff Break = false
-isOff Ability = false
-isOff Ack = false
-isOff Complete = false
-isOff CheckLink = false
-isOff Up = false
+isOff state = byState state true false false false false false false
+
+abbrev pub isBreak : State → Bool
+isBreak state = byState state false true false false false false false
+
+-- The states in which pages are heard and ordered: "In Ability, Ack and Complete".
+abbrev pub isTalking : State → Bool
+isTalking state = byState state false false true true true false false
 
 abbrev pub isUp : State → Bool
-isUp Off = false
-isUp Break = false
-isUp Ability = false
-isUp Ack = false
-isUp Complete = false
-isUp CheckLink = false
-isUp Up = true
+isUp state = byState state false false false false false false true
 
 -- Nothing said and nothing heard: no own page, no held page, no page out, count 0, the link latch clear. The timer stands at the reading given: in Break
 -- this starts the break timer; in Off it is 0 and never looked at. The mark is set anew on leaving Break and not looked at before; until then it is

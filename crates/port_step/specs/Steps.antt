@@ -8,11 +8,9 @@ use Rattle.port_state.specs.declared.Device.{Device}
 use Rattle.port_state.specs.Memory.{Due, due}
 use Rattle.port_registers.specs.Registers.{readDue, writeDue}
 use Rattle.port_timing.specs.declared.profile.Profile.{Profile}
-use Rattle.port_timing.specs.Timers.{lowSpeed}
+use Rattle.port_timing.specs.Ticks.{lowSpeed, tickDue}
 use Rattle.port_hearing.specs.Edges.{edgeDue}
-use Rattle.port_timing.specs.Ticks.{tickDue}
-use Rattle.port_timing.specs.Sending.{sentDue}
-use Rattle.port_timing.specs.Reports.{reportDue}
+use Rattle.port_timing.specs.Sending.{sentDue, reportDue}
 use Rattle.port_step.specs.declared.events.Event.{Event}
 use Rattle.port_step.specs.declared.events.Event.the-variants.{Edge, Tick, Sent, Report, Read, Write, Unnamed}
 

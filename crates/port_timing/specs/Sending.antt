@@ -1,6 +1,6 @@
--- 01, "The negotiation (LSM)": the event "page sent".
+-- 01, "The negotiation (LSM)": the events "page sent" and "link report".
 use Prim.Native.Nat.{ℕ, _+_}
-use mathlib.Core.Bool.{false}
+use mathlib.Core.Bool.{false, Bool, true}
 use mathlib.Core.List.{List}
 use Rattle.answers.specs.declared.Refusal.the-variants.{Turn}
 use Rattle.answers.specs.Choices.{if_then_else_, _≤?_}
@@ -8,10 +8,12 @@ use Rattle.answers.specs.Answers.{nothing, refused}
 use Rattle.page_resolve.specs.Resolving.{resolutionOf, saidOf}
 use Rattle.port_state.specs.declared.State.{State}
 use Rattle.port_state.specs.declared.State.the-variants.{Off, Break, Ability, Ack, Complete, CheckLink, Up}
-use Rattle.port_state.specs.declared.Outcome.the-variants.{Resolved}
+use Rattle.port_state.specs.declared.Outcome.the-variants.{Resolved, NoneYet}
 use Rattle.port_state.specs.declared.Device.{Device}
-use Rattle.port_state.specs.Memory.{Due, due}
+use Rattle.port_state.specs.Memory.{Due, due, intoBreak}
 use Rattle.port_state.specs.Changes.{withState, withOutcome, withOut, withCount, withMark, withTimer}
+use Rattle.page_resolve.specs.declared.resolving.Resolution.the-variants.{Refused, Settled}
+use Rattle.port_state.specs.declared.Outcome.{Outcome}
 
 -- "Sent ends it and marks waiting."
 abbrev pub ended : (reading : ℕ) → Device → Device
@@ -45,3 +47,22 @@ sentIn Up order reading d = ifOut d (due nothing (ended reading d))
 
 unfoldable pub sentDue : (order : List ℕ) (reading : ℕ) → Device → Due
 sentDue order reading d = sentIn (d .state) order reading d
+
+-- "With a rate resolved"
+abbrev pub hasRate : Outcome → Bool
+hasRate NoneYet = false
+hasRate (Resolved (Refused refusal)) = false
+hasRate (Resolved (Settled ability master)) = true
+
+-- "Check-link: .. With a rate resolved, link up: to Up." "Up: .. Link down: to Break." Elsewhere a report is not named, or ignored.
+abbrev pub reportIn : State → (up : Bool) (reading : ℕ) → Device → Device
+reportIn Off up reading d = d
+reportIn Break up reading d = d
+reportIn Ability up reading d = d
+reportIn Ack up reading d = d
+reportIn Complete up reading d = d
+reportIn CheckLink up reading d = if up then (if hasRate (d .link .outcome) then withState Up d else d) else d
+reportIn Up up reading d = if up then d else intoBreak reading d
+
+unfoldable pub reportDue : (up : Bool) (reading : ℕ) → Device → Due
+reportDue up reading d = due nothing (reportIn (d .state) up reading d)

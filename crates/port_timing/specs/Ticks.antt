@@ -1,9 +1,18 @@
--- 01, "The negotiation (LSM)": the tick event, with its draw.
-use Prim.Native.Nat.{ℕ}
+-- 01, "The negotiation (LSM)": the tick event, with its draw; the timers that it looks at, the pages that it orders.
+use Prim.Native.Nat.{ℕ, _+_, _*_, _/_, _%_}
 use mathlib.Core.Bool.{Bool, true, false, not, _&&_}
-use Rattle.answers.specs.Choices.{if_then_else_, _<?_}
-use Rattle.answers.specs.Answers.{nothing, pageOrdered}
+use mathlib.Core.List.{[], _∷_}
+use Rattle.answers.specs.Choices.{if_then_else_, _≤?_, _=?_, _<?_}
+use Rattle.page_resolve.specs.declared.resolving.Resolution.the-variants.{Refused, Settled}
 use Rattle.line_mode.specs.Clock.{timeBetween}
+use Rattle.line_mode.specs.Modes.{lsmMode}
+use Rattle.page_word.specs.Word.{among}
+use Rattle.port_state.specs.declared.Outcome.{Outcome}
+use Rattle.port_state.specs.declared.Outcome.the-variants.{NoneYet, Resolved}
+use Rattle.port_timing.specs.declared.profile.Profile.{Profile}
+use Rattle.page_word.specs.Fields.{fieldOf, withField}
+use Rattle.page_word.specs.declared.fields.Field.the-variants.{Selector, EchoedNonce, ForcedRole, Ack, NextPage, Nonce}
+use Rattle.answers.specs.Answers.{nothing, pageOrdered}
 use Rattle.line_reader.specs.declared.reader.Reader.{Reader}
 use Rattle.line_reader.specs.declared.reader.Reader.the-variants.{Fresh, Open, Dropping}
 use Rattle.port_state.specs.declared.State.{State}
@@ -13,9 +22,48 @@ use Rattle.port_state.specs.declared.Device.{Device}
 use Rattle.port_state.specs.PageRegisters.{wordOf}
 use Rattle.port_state.specs.Memory.{Due, due, intoBreak}
 use Rattle.port_state.specs.Changes.{withState, withOwn, withOut, withMark, withReader}
-use Rattle.port_timing.specs.declared.profile.Profile.{Profile}
-use Rattle.port_timing.specs.Timers.{runOut, inhibitOf}
-use Rattle.port_timing.specs.OwnPages.{ownPage, echoingPage}
+
+-- "A timer has run out when the time since its start is at least its number, looked at on ticks only."
+-- The number, the reading at which it was started, the reading now.
+abbrev pub runOut : (number start reading : ℕ) → Bool
+runOut number start reading = number ≤? timeBetween reading start
+
+-- "Numbers in ns: break 8 000 000 (house); silent 33 000; wait 350 000", with the numbers of the low-speed mode. The break timer's is `breaking` here.
+abbrev pub lowSpeed : Profile
+lowSpeed = record { mode = lsmMode; breaking = 8000000; silent = 33000; wait = 350000 }
+
+-- "inhibit 97 500 000 (also without a rate)"
+abbrev pub inhibit : ℕ
+inhibit = 97500000
+
+-- "for 10BASE-T1S 402 000 000, for 10BASE-T1L 3 060 000 000": 10BASE-T1S is A1 (full) and A22 (half), and
+-- 10BASE-T1L is A9.
+abbrev pub inhibitFor : (ability : ℕ) → ℕ
+inhibitFor ability =
+    if among ability (1 ∷ 22 ∷ []) then 402000000
+    else if ability =? 9 then 3060000000
+    else inhibit
+
+-- By the kept outcome.
+abbrev pub inhibitOf : Outcome → ℕ
+inhibitOf NoneYet = inhibit
+inhibitOf (Resolved (Refused refusal)) = inhibit
+inhibitOf (Resolved (Settled ability master)) = inhibitFor ability
+
+-- "tick (with a draw, taken modulo 32)", "T = draw (but T4 as advertised if M/S is 1)": T0-T3 are the draw's in both cases.
+unfoldable pub nonceFor : (advertised draw : ℕ) → ℕ
+nonceFor advertised draw =
+    if fieldOf ForcedRole advertised =? 1 then draw % 16 + (fieldOf Nonce advertised / 16) * 16 else draw % 32
+
+-- "own page is the advertisement with S = 1, E = 0, Ack = 0, NP = 0, T = draw"
+unfoldable pub ownPage : (advertised draw : ℕ) → ℕ
+ownPage advertised draw =
+    withField Nonce (nonceFor advertised draw)
+    (withField NextPage 0 (withField Ack 0 (withField EchoedNonce 0 (withField Selector 1 advertised))))
+
+-- "the own page (in Ack and Complete with Ack 1 and E = held T)"
+unfoldable pub echoingPage : (own held : ℕ) → ℕ
+echoingPage own held = withField Ack 1 (withField EchoedNonce (fieldOf Nonce held) own)
 
 -- "When the timer is out: own page is the advertisement ..; reader fresh; mark "waiting" now; to Ability."
 abbrev pub leavesBreak : (reading draw : ℕ) → Device → Device

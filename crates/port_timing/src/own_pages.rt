@@ -1,6 +1,6 @@
 // The pages that a device makes.
 ghost use mathlib.Core.Path.{_≡_};
-ghost use Rattle.port_timing.specs.OwnPages.{nonceFor, ownPage, echoingPage};
+ghost use Rattle.port_timing.specs.Ticks.{nonceFor, ownPage, echoingPage};
 use page_word::Field;
 use page_word::get;
 use page_word::set;

@@ -1,6 +1,6 @@
 // The numbers of the timers, and when one has run out.
 ghost use mathlib.Core.Path.{_≡_};
-ghost use Rattle.port_timing.specs.Timers.{runOut, lowSpeed, inhibitFor, inhibitOf};
+ghost use Rattle.port_timing.specs.Ticks.{runOut, lowSpeed, inhibitFor, inhibitOf};
 use line_mode::LineMode;
 use line_mode::time_between;
 use page_resolve::Resolution;

@@ -2,7 +2,7 @@
 ghost use mathlib.Core.Path.{_≡_};
 ghost use Rattle.port_state.specs.declared.State.the-variants.{Up, CheckLink};
 ghost use Rattle.port_state.specs.Memory.{Meets};
-ghost use Rattle.port_timing.specs.Reports.{hasRate, reportIn, reportDue};
+ghost use Rattle.port_timing.specs.Sending.{hasRate, reportIn, reportDue};
 use answers::Answer;
 use page_resolve::Resolution;
 use port_state::Device;

@@ -2,8 +2,7 @@
 ghost use mathlib.Core.Path.{_≡_};
 ghost use Rattle.port_state.specs.declared.State.the-variants.{Break, CheckLink};
 ghost use Rattle.port_state.specs.Memory.{Meets};
-ghost use Rattle.port_timing.specs.Timers.{lowSpeed};
-ghost use Rattle.port_timing.specs.Ticks.{leavesBreak, holdsBack, mayOrder, orders, tickIn, tickDue};
+ghost use Rattle.port_timing.specs.Ticks.{lowSpeed, leavesBreak, holdsBack, mayOrder, orders, tickIn, tickDue};
 use crate::own_pages::echoing_page;
 use crate::own_pages::own_page;
 use crate::profile::Profile;

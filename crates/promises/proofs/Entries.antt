@@ -16,7 +16,7 @@ use Rattle.line_reader.specs.Reading.{edgeOf}
 use Rattle.port_state.specs.declared.State.{State}
 use Rattle.port_state.specs.declared.State.the-variants.{Off, Break, Ability, Ack, Complete, CheckLink, Up}
 use Rattle.port_state.specs.declared.Device.{Device}
-use Rattle.port_state.specs.Memory.{Due, due, isOff, intoBreak, intoOff}
+use Rattle.port_state.specs.Memory.{isTalking, isBreak, Due, due, isOff, intoBreak, intoOff}
 use Rattle.port_state.specs.Changes.{withState, withReader}
 use Rattle.page_word.specs.Word.{hasBit}
 use Rattle.port_registers.specs.declared.Bank.the-variants.{Advertised, Partner}
@@ -26,15 +26,13 @@ use Rattle.port_registers.specs.Registers.{registerOf, readAt, readDue, command
 use Rattle.port_registers.proofs.RegisterNumbers.{isControl, control-number}
 use Rattle.line_mode.specs.declared.modes.LineMode.{LineMode}
 use Rattle.port_timing.specs.declared.profile.Profile.{Profile}
-use Rattle.port_timing.specs.Timers.{runOut, inhibitOf}
-use Rattle.port_hearing.specs.Edges.{isChanged, isTalking, echoesOther, pageInAbility, pageInAck, pageIn, hears, edgeDue}
-use Rattle.port_timing.specs.Ticks.{mayOrder, orders, tickIn, tickDue}
-use Rattle.port_timing.specs.Sending.{counted, sentIn, sentDue}
-use Rattle.port_timing.specs.Reports.{hasRate, reportIn, reportDue}
+use Rattle.port_timing.specs.Ticks.{runOut, inhibitOf, mayOrder, orders, tickIn, tickDue}
+use Rattle.port_hearing.specs.Edges.{isChanged, echoesOther, pageInAbility, pageInAck, pageIn, hears, edgeDue}
+use Rattle.port_timing.specs.Sending.{counted, sentIn, sentDue, hasRate, reportIn, reportDue}
 use Rattle.port_step.specs.declared.events.Event.{Event}
 use Rattle.port_step.specs.declared.events.Event.the-variants.{Edge, Tick, Sent, Report, Read, Write, Unnamed}
 use Rattle.port_step.specs.Steps.{stepOver}
-use Rattle.promises.specs.TwoPasts.{isBreak, restarts, readingOf}
+use Rattle.promises.specs.TwoPasts.{restarts, readingOf}
 
 -- If x is what an event at this reading brings to d: a device that is in Break, and was not or was restarted, is the entered one.
 pub record Entry (restarted : Bool) (reading : ℕ) (d : Device) (x : Due) : Type 0 where

@@ -9,8 +9,7 @@ use Rattle.port_state.specs.Changes.{withAdvertised}
 use Rattle.port_registers.specs.Registers.{registerOf, commanded, writeDue}
 use Rattle.port_step.specs.declared.events.Event.{Event}
 use Rattle.port_step.specs.Steps.{stepOver, afterAll}
-use Rattle.promises.specs.TwoPasts.{readingOf, Same}
-use Rattle.promises.specs.AsIfNew.{switchedOn, AsIfNew}
+use Rattle.promises.specs.TwoPasts.{readingOf, Same, switchedOn, AsIfNew}
 use Rattle.promises.proofs.TwinRuns.{same-runs}
 use Rattle.promises.proofs.NoPageOutlives.{same-both, has-entered}
 

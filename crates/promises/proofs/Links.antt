@@ -13,11 +13,9 @@ use Rattle.line_reader.specs.Pattern.{asks}
 use Rattle.line_reader.specs.Reading.{edgeOf, arrives, goesOn, dropsOn}
 use Rattle.port_registers.specs.Registers.{registerOf, statusBits, readDue, commanded, writeDue}
 use Rattle.port_state.specs.PageRegisters.{wordOf}
-use Rattle.port_timing.specs.OwnPages.{nonceFor, ownPage, echoingPage}
+use Rattle.port_timing.specs.Ticks.{nonceFor, ownPage, echoingPage, mayOrder, orders, tickDue}
 use Rattle.port_hearing.specs.Edges.{beyondAckAndEcho, pageInAbility, pageInAck, pageIn, hears, edgeDue}
-use Rattle.port_timing.specs.Ticks.{mayOrder, orders, tickDue}
-use Rattle.port_timing.specs.Sending.{counted, sentDue}
-use Rattle.port_timing.specs.Reports.{reportDue}
+use Rattle.port_timing.specs.Sending.{counted, sentDue, reportDue}
 use Rattle.port_step.specs.Steps.{stepOver, saysTo, afterAll}
 use Rattle.promises.specs.FirstLink.{FirstLink}
 use Rattle.promises.specs.TwoPasts.{without6And4}

@@ -11,7 +11,7 @@ use Rattle.port_state.specs.declared.Device.{Device}
 use Rattle.port_state.specs.Memory.{freshDevice, intoBreak}
 use Rattle.port_state.specs.Changes.{withAdvertised}
 use Rattle.port_registers.specs.Registers.{readDue}
-use Rattle.port_timing.specs.Timers.{lowSpeed}
+use Rattle.port_timing.specs.Ticks.{lowSpeed}
 use Rattle.port_step.specs.declared.events.Event.{Event}
 use Rattle.port_step.specs.declared.events.Event.the-variants.{Edge, Tick, Sent, Report, Read, Write, Unnamed}
 use Rattle.port_step.specs.Steps.{saysTo, afterAll}

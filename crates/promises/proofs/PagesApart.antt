@@ -4,11 +4,10 @@ use mathlib.Core.Path.{_≡_, refl, sym, ap, _∙_, subst}
 use mathlib.Core.Bool.{Bool, true, false, cond, xor}
 use mathlib.Core.List.{List, [], _∷_, _++_}
 use lib.ListN.{length, replicate}
-use Rattle.page_word.specs.Word.{bitsOf}
+use Rattle.page_word.specs.Word.{bitsOf, among}
 use Rattle.page_check_bits.specs.CheckBits.{plus, checkList}
 use Rattle.page_check_bits.proofs.Remainders.{scaled, times, quotient, divisible, no-other}
 use Rattle.page_check_bits.proofs.Strength.{differing}
-use Rattle.page_word.specs.Lists.{among}
 use Rattle.line_mode.specs.declared.modes.LineMode.{LineMode}
 use Rattle.line_writer.specs.Transitions.{transitions}
 use Rattle.line_writer.proofs.Damage.{hasAt, pages-apart}

@@ -26,11 +26,9 @@ use Rattle.port_state.specs.PageRegisters.{wordOf, registersOf}
 use Rattle.port_state.specs.Memory.{Due, due, freshDevice, intoBreak}
 use Rattle.port_state.specs.Changes.{withState, withAdvertised, withOwn, withMark, withReader}
 use Rattle.port_registers.specs.Registers.{registerOf, readDue, commanded, writeDue}
-use Rattle.port_timing.specs.OwnPages.{nonceFor, ownPage, echoingPage}
+use Rattle.port_timing.specs.Ticks.{nonceFor, ownPage, echoingPage, mayOrder, orders, tickDue}
 use Rattle.port_hearing.specs.Edges.{beyondAckAndEcho, pageInAbility, pageInAck, pageIn, hears, edgeDue}
-use Rattle.port_timing.specs.Ticks.{mayOrder, orders, tickDue}
-use Rattle.port_timing.specs.Sending.{counted, sentDue}
-use Rattle.port_timing.specs.Reports.{reportDue}
+use Rattle.port_timing.specs.Sending.{counted, sentDue, reportDue}
 use Rattle.port_step.specs.declared.events.Event.{Event}
 use Rattle.port_step.specs.declared.events.Event.the-variants.{Sent, Read, Write}
 use Rattle.port_step.specs.Steps.{stepOver, stepDue, saysTo, afterAll}

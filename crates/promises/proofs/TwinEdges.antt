@@ -16,9 +16,10 @@ use Rattle.port_state.specs.declared.State.{State}
 use Rattle.port_state.specs.declared.State.the-variants.{Off, Break, Ability, Ack, Complete, CheckLink, Up}
 use Rattle.port_state.specs.declared.Flags.{Flags}
 use Rattle.port_state.specs.declared.Device.{Device}
+use Rattle.port_state.specs.Memory.{isTalking}
 use Rattle.port_state.specs.Changes.{withState, withReader}
 use Rattle.line_mode.specs.declared.modes.LineMode.{LineMode}
-use Rattle.port_hearing.specs.Edges.{isChanged, isTalking, faultAfter, echoesOther, pageInAbility, pageInAck, pageIn, hears, edgeDue}
+use Rattle.port_hearing.specs.Edges.{isChanged, faultAfter, echoesOther, pageInAbility, pageInAck, pageIn, hears, edgeDue}
 use Rattle.port_state.proofs.ClockAhead.{twin}
 use Rattle.promises.proofs.Twins.{Alike, alike-if, kept, saying-same}
 use Rattle.promises.specs.TwoPasts.{shifted}

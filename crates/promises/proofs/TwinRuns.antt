@@ -11,7 +11,7 @@ use Rattle.page_resolve.specs.Rates.{rateOrder}
 use Rattle.port_state.specs.declared.Flags.{Flags}
 use Rattle.port_state.specs.declared.Device.{Device}
 use Rattle.port_registers.specs.Registers.{readDue}
-use Rattle.port_timing.specs.Timers.{lowSpeed}
+use Rattle.port_timing.specs.Ticks.{lowSpeed}
 use Rattle.port_step.specs.declared.events.Event.{Event}
 use Rattle.port_step.specs.Steps.{stepDue, saysTo, afterAll}
 use Rattle.promises.specs.TwoPasts.{shiftedBy, without6And4, readsStatus, compared, statusWasRead, comparedValue, orderedPages, Same}

@@ -18,11 +18,8 @@ use Rattle.port_state.specs.declared.Link.{Link}
 use Rattle.port_state.specs.declared.Device.{Device}
 use Rattle.port_state.specs.Changes.{withState}
 use Rattle.port_timing.specs.declared.profile.Profile.{Profile}
-use Rattle.port_timing.specs.OwnPages.{echoingPage}
-use Rattle.port_timing.specs.Timers.{runOut, inhibitOf}
-use Rattle.port_timing.specs.Ticks.{holdsBack, mayOrder, orders, tickIn, tickDue}
-use Rattle.port_timing.specs.Sending.{counted, sentIn, sentDue}
-use Rattle.port_timing.specs.Reports.{hasRate, reportIn, reportDue}
+use Rattle.port_timing.specs.Ticks.{echoingPage, runOut, inhibitOf, holdsBack, mayOrder, orders, tickIn, tickDue}
+use Rattle.port_timing.specs.Sending.{counted, sentIn, sentDue, hasRate, reportIn, reportDue}
 use Rattle.port_state.proofs.ClockAhead.{linkIn, twin}
 use Rattle.promises.proofs.Twins.{Twins, Alike, twins-if, alike-if, twins-by, alike-by, kept, saying-same}
 use Rattle.promises.specs.TwoPasts.{shifted}

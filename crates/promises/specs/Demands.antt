@@ -7,8 +7,7 @@
 -- function is safe, ends and answers and leaves what its definition has; and no public function has a `requires`, which `tools/no-requires` checks.
 use Rattle.line_mode.specs.Modes.{hsmMode, lsmMode}
 use Rattle.line_captures.specs.ReadingBack.{ReadingBack}
-use Rattle.promises.specs.TwoPasts.{NoPageOutlivesItsLink}
-use Rattle.promises.specs.AsIfNew.{AsIfNew}
+use Rattle.promises.specs.TwoPasts.{NoPageOutlivesItsLink, AsIfNew}
 use Rattle.promises.specs.FirstLink.{FirstLink}
 use Rattle.promises.specs.Refusals.{EachRefusal}
 use Rattle.promises.specs.WorkedPasts.{WorkedPasts}

@@ -1,7 +1,6 @@
 pub mod SmallDamage
 pub mod BothEnds
 pub mod TwoPasts
-pub mod AsIfNew
 pub mod WorkedPasts
 pub mod Table
 pub mod FirstLink

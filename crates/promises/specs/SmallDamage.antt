@@ -5,9 +5,8 @@ use mathlib.Core.Bool.{Bool, false, xor}
 use mathlib.Core.List.{List, [], _∷_, _++_}
 use lib.ListN.{length, replicate}
 use Rattle.answers.specs.Choices.{if_then_else_}
-use Rattle.page_word.specs.Word.{bitsOf}
+use Rattle.page_word.specs.Word.{bitsOf, among}
 use Rattle.page_check_bits.specs.CheckBits.{plus, generator, checkList}
-use Rattle.page_word.specs.Lists.{among}
 use Rattle.line_mode.specs.declared.modes.LineMode.{LineMode}
 use Rattle.line_writer.specs.Transitions.{transitions}
 

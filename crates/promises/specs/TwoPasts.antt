@@ -10,24 +10,13 @@ use Rattle.answers.specs.Answers.{Said, saying}
 use Rattle.page_word.specs.Word.{hasBit}
 use Rattle.page_word.specs.Fields.{withPart}
 use Rattle.line_mode.specs.Clock.{timeBetween}
-use Rattle.port_state.specs.declared.State.{State}
-use Rattle.port_state.specs.declared.State.the-variants.{Off, Break, Ability, Ack, Complete, CheckLink, Up}
 use Rattle.port_state.specs.declared.Device.{Device}
-use Rattle.port_state.specs.Memory.{freshDevice}
+use Rattle.port_state.specs.Memory.{freshDevice, isBreak}
 use Rattle.port_registers.specs.Registers.{readDue}
 use Rattle.port_step.specs.declared.events.Event.{Event}
 use Rattle.port_step.specs.declared.events.Event.the-variants.{Edge, Tick, Sent, Report, Read, Write, Unnamed}
 use Rattle.port_step.specs.Steps.{stepDue, saysTo, afterAll}
-
--- Whether a state is Break.
-abbrev pub isBreak : State → Bool
-isBreak Off = false
-isBreak Break = true
-isBreak Ability = false
-isBreak Ack = false
-isBreak Complete = false
-isBreak CheckLink = false
-isBreak Up = false
+use Rattle.port_state.specs.declared.page_registers.PageRegisters.{PageRegisters}
 
 -- 01, "Registers": a write to 512 with bit 12, enable, and bit 9 "goes to Break" from Break too. (With bit 15 as well the device is fresh and Off.)
 abbrev pub restarts : Event → Bool
@@ -129,3 +118,19 @@ abbrev pub NoPageOutlivesItsLink : Type 0
 NoPageOutlivesItsLink =
     (first second : Module) (later : List Event) → deviceOf first .lasting .advertised ≡ deviceOf second .lasting .advertised
     → Same (deviceOf first) later (deviceOf second) (map (shiftedBy (difference first second)) later)
+
+-- What demand 3 comes to for one module: after Break, no answer depends on any page heard before it. The only trace that a page may leave is two bits of
+-- 7.513, "Page received" and "Remote fault", until they are read.
+
+-- A new device: fresh, then 7.514-7.516 are written and it is enabled, all at one reading. It has never heard a page.
+abbrev pub switchedOn : ℕ → PageRegisters → List Event
+switchedOn reading a =
+    Write reading 514 (a .low) ∷ Write reading 515 (a .middle) ∷ Write reading 516 (a .high) ∷ Write reading 512 (2 ^ 12) ∷ []
+
+-- A module with any past that has just gone into Break gives the same answers, register values and ordered pages to any later events as a
+-- new one with the same advertisement, switched on at that reading: what it says is what it would say had it never heard a page. Only bits 6 and 4
+-- of 7.513 may differ, up to and with its first read.
+abbrev pub AsIfNew : Type 0
+AsIfNew =
+    (m : Module) (later : List Event)
+    → Same (deviceOf m) later (afterAll freshDevice (switchedOn (readingOf (m .entry)) (deviceOf m .lasting .advertised))) later

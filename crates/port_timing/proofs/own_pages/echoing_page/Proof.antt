@@ -1,5 +1,5 @@
 use borrow.Author.Needs.{needs}
-use Rattle.port_timing.specs.OwnPages.{echoingPage}
+use Rattle.port_timing.specs.Ticks.{echoingPage}
 use Rattle.port_timing.proofs.own_pages.echoing_page.Statement.{statement}
 use Rattle.port_timing.proofs.own_pages.echoing_page.Tie as tie
 

@@ -1,6 +1,6 @@
 use borrow.Author.Needs.{needs}
 use borrow.Author.Tests.{eq-eqb, ne-eqb}
-use Rattle.port_timing.specs.OwnPages.{nonceFor}
+use Rattle.port_timing.specs.Ticks.{nonceFor}
 use Rattle.port_timing.proofs.own_pages.nonce_for.Statement.{statement}
 use Rattle.port_timing.proofs.own_pages.nonce_for.Tie as tie
 

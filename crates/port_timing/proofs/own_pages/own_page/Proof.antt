@@ -1,5 +1,5 @@
 use borrow.Author.Needs.{needs}
-use Rattle.port_timing.specs.OwnPages.{ownPage}
+use Rattle.port_timing.specs.Ticks.{ownPage}
 use Rattle.port_timing.proofs.own_pages.own_page.Statement.{statement}
 use Rattle.port_timing.proofs.own_pages.own_page.Tie as tie
 

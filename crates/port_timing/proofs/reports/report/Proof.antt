@@ -1,6 +1,6 @@
 use borrow.Author.Needs.{needs}
 use Rattle.port_state.proofs.Dues.{as-due}
-use Rattle.port_timing.specs.Reports.{reportDue}
+use Rattle.port_timing.specs.Sending.{reportDue}
 use Rattle.port_timing.proofs.reports.report.Statement.{statement}
 use Rattle.port_timing.proofs.reports.report.Tie as tie
 
