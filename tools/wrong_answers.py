@@ -1,4 +1,4 @@
-"""The wrong answers that the prover has to refuse, and what it said of each: what tools/refusals and tools/trace share.
+"""The wrong answers that the prover has to refuse, and what it said of each: what tools/refusals and tools/repository_names.py share.
 
 A file crates/NAME/must-fail/FILE.edit has one or more wrong answers. Each begins with two lines of its own,
 
@@ -26,22 +26,25 @@ MADE_BY_SEARCH = re.compile(r'^fn \S+: no proof: expected `[^`]+` in proofs/(\S+
 
 
 class Wrong:
-    """One wrong answer: the crate, the file's name, its own name, where it is refused, why, and its replacements as lines."""
+    """One wrong answer: the crate, the file's name, its own name and line there, where it is refused, why, and its replacements as lines."""
 
-    def __init__(self, crate, file, name):
-        self.crate, self.file, self.name = crate, file, name
+    def __init__(self, crate, file, name, line):
+        self.crate, self.file, self.name, self.line = crate, file, name, line
         self.place, self.why, self.lines = '', [], []
 
     def title(self):
         return f'{self.crate}/{self.name}'
 
+    def path(self):
+        return f'crates/{self.crate}/must-fail/{self.file}.edit'
+
 
 def of_text(crate, file, text):
     """The wrong answers of an edit's text. Replacements before the first name are a fault."""
     found = []
-    for line in text.splitlines():
+    for number, line in enumerate(text.splitlines(), 1):
         if line.startswith(WRONG):
-            found.append(Wrong(crate, file, line[len(WRONG):]))
+            found.append(Wrong(crate, file, line[len(WRONG):], number))
         elif not found:
             if line.strip():
                 raise ValueError(f'{crate}/{file}: it has lines before the first "{WRONG.strip()}"')

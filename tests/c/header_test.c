@@ -1,9 +1,9 @@
 /*
  * The C library as a C program sees it: through include/maststep.h, linked with libmaststep.a.
  *
- * What is expected here is written out from the scope's own tables (positions, windows, times, examples
- * P1-P4 and P6-P14), with no code in common with the library. A check that holds prints nothing. The
- * last line is 'N passed, M failed', and the exit status is 1 where M is not 0.
+ * What is expected here is written out from the scope's own tables (positions, windows, times, and P1-P14,
+ * which test_table_of_01 runs in their order), with no code in common with the library. A check that holds
+ * prints nothing. The last line is 'N passed, M failed', and the exit status is 1 where M is not 0.
  */
 #include <stdio.h>
 #include <string.h>
@@ -72,11 +72,7 @@ static void test_header(void)
 
 static void test_check(void)
 {
-    same("P1 check of 0", maststep_check(0), packed(0x84, 0));
-    same("P2 check of 2^47", maststep_check(UINT64_C(1) << 47), packed(0x84, 0x8005));
-    same("P3 check of 2^46", maststep_check(UINT64_C(1) << 46), packed(0x84, 0x800f));
-    same("P4 check of 2^45", maststep_check(UINT64_C(1) << 45), packed(0x84, 0x801b));
-    /* The remainder is linear: that of a sum of words is the sum of theirs. */
+    /* The remainder is linear: that of a sum of words is the sum of theirs, which are P2 to P4. */
     same("check of 2^47 + 2^46", maststep_check(UINT64_C(3) << 46), packed(0x84, 0x8005 ^ 0x800f));
     same("check of 2^47 + 2^46 + 2^45", maststep_check(UINT64_C(7) << 45), packed(0x84, 0x8005 ^ 0x800f ^ 0x801b));
     same("kind of the check of 2^48 - 1", maststep_kind(maststep_check(WIDEST)), 0x84);
@@ -100,16 +96,13 @@ static uint64_t settled(uint64_t ability, uint64_t master)
     return packed(0x82, ability + 256 * master);
 }
 
-static void test_resolve_examples(void)
+/* The other side of P9 to P13 sees the opposite role, or the same refusal. */
+static void test_other_side(void)
 {
-    same("P9", maststep_resolve(0x850001, 0xA90001), settled(2, 0));
-    same("P10", maststep_resolve(0x851001, 0xA91001), packed(9, 0));
-    same("P11", maststep_resolve(0x951001, 0xA90001), settled(2, 1));
-    same("P12", maststep_resolve(0x850001, 0x850001), packed(5, 0));
-    same("P13", maststep_resolve(0x450001, 0xA90001), packed(8, 0));
-    /* The other side sees the opposite role. */
     same("P9 exchanged", maststep_resolve(0xA90001, 0x850001), settled(2, 1));
+    same("P10 exchanged", maststep_resolve(0xA91001, 0x851001), packed(9, 0));
     same("P11 exchanged", maststep_resolve(0xA90001, 0x951001), settled(2, 0));
+    same("P13 exchanged", maststep_resolve(0xA90001, 0x450001), packed(8, 0));
 }
 
 /* Each refusal at either side, and before those that come after it. */
@@ -843,9 +836,6 @@ static void fresh_run(uint32_t start)
 
 static void test_run_of_a_fresh_device(void)
 {
-    fresh_run(UINT32_MAX);
-    reads_register(513, 8);
-    runs("P14", 3, 1, packed(0x84, 1));
     /* Each call starts with a fresh device: nothing is left of this one, which is enabled and advertises. */
     fresh_run(0);
     writes_register(514, 0xffff);
@@ -974,13 +964,69 @@ static void test_run_to_link_up(void)
     runs("the run without room", 3 * events, events - 1, packed(12, 0));
 }
 
+/* ---- P1-P14 */
+
+/* A page written into the list from its first entry on: the time from the first reading to the last. */
+static uint64_t time_of_page(uint64_t readings)
+{
+    return (uint32_t)(list[readings - 1] - list[0]);
+}
+
+/* The zero page at high speed from P5's first reading on, read with another second reading. */
+static void reads_with_second(const char *what, uint32_t second, uint64_t answer)
+{
+    size_t next;
+
+    list[1] = second;
+    same(what, maststep_read(list, 81, 0, 0, &next), answer);
+}
+
+/*
+ * The scope's single table, through the functions of the header, in its order. P5 is a time, which no
+ * function answers; reading shows it. At high speed a gap of 21 to 39 ns is one position, so the time
+ * between the two readings is 30 if the second may be 9 ns earlier or later, and not 10.
+ */
+static void test_table_of_01(void)
+{
+    const uint32_t earlier = UINT32_C(4294967290), later = 24;
+
+    same("P1", maststep_check(0), packed(0x84, 0));
+    same("P2", maststep_check(UINT64_C(1) << 47), packed(0x84, 0x8005));
+    same("P3", maststep_check(UINT64_C(1) << 46), packed(0x84, 0x800f));
+    same("P4", maststep_check(UINT64_C(1) << 45), packed(0x84, 0x801b));
+
+    same("P6, edges", maststep_write(list, ENTRIES, 0, 0, 0, earlier), packed(0x84, 81));
+    same("P6, time", time_of_page(81), 4680);
+    same("P5, first reading", list[0], earlier);
+    same("P5, second reading", list[1], later);
+    reads_with_second("P5, time 30", later, packed(0x80, 0));
+    reads_with_second("P5, time 21", later - 9, packed(0x80, 0));
+    reads_with_second("P5, time 39", later + 9, packed(0x80, 0));
+    reads_with_second("P5, time 20", later - 10, packed(1, 0));
+    reads_with_second("P5, time 40", later + 10, packed(1, 0));
+
+    same("P7, edges", maststep_write(list, ENTRIES, 0, 1, 0, earlier), packed(0x84, 86));
+    same("P7, time", time_of_page(86), 124800);
+    same("P8", maststep_write(list, ENTRIES, 0, 0, UINT64_C(1) << 47, earlier), packed(0x84, 85));
+
+    same("P9", maststep_resolve(0x850001, 0xA90001), settled(2, 0));
+    same("P10", maststep_resolve(0x851001, 0xA91001), packed(9, 0));
+    same("P11", maststep_resolve(0x951001, 0xA90001), settled(2, 1));
+    same("P12", maststep_resolve(0x850001, 0x850001), packed(5, 0));
+    same("P13", maststep_resolve(0x450001, 0xA90001), packed(8, 0));
+
+    fresh_run(earlier);
+    reads_register(513, 0x0008);
+    runs("P14", 3, 1, packed(0x84, 1));
+}
+
 int main(void)
 {
     /* Line by line, so that what failed is still shown if a later call crashes. */
     setvbuf(stdout, NULL, _IOLBF, BUFSIZ);
     test_header();
     test_check();
-    test_resolve_examples();
+    test_other_side();
     test_resolve_refusals();
     test_rates();
     test_roles();
@@ -1000,6 +1046,7 @@ int main(void)
     test_run_without_lists();
     test_run_registers();
     test_run_to_link_up();
+    test_table_of_01();
     printf("%u passed, %u failed\n", passed, failed);
     return failed > 0;
 }

@@ -74,3 +74,15 @@ packed s = s .kind * 2 ^ 56 + s .value % 2 ^ 56
 abbrev pub spoken : List Said → List Said
 spoken [] = []
 spoken (s ∷ rest) = let later = spoken rest in if s .kind =? 0 then later else s ∷ later
+
+-- What a call on a lent list has to bring: what is said, and the list afterwards.
+pub record Leaves : Type 0 where
+  pub says : Said
+  pub list : List ℕ
+
+abbrev pub leaving : Said → List ℕ → Leaves
+leaving says list = record { says = says; list = list }
+
+-- On a refusal "list kept".
+abbrev pub kept : Refusal → List ℕ → Leaves
+kept refusal list = leaving (refused refusal) list

@@ -6,8 +6,8 @@ use Prim.Native.Nat.{ℕ, zero, suc, _+_, _-_, _*_, _^_, _<_, _≤_}
 use native.Mathlib.Omega.{arith}
 use lib.Dec.{eqb, ltb}
 use lib.ListN.{length, drop, length-append, length-drop}
-use borrow.Author.Tests.{ltb-false, eqb-false, lt-ltb, le-ltb, ne-eqb}
-use Rattle.answers.specs.Answers.{number, pageRead}
+use borrow.Author.Tests.{ltb-false, eqb-false, lt-ltb, lt-leb, le-ltb, ne-eqb}
+use Rattle.answers.specs.Answers.{number, pageRead, kept}
 use Rattle.answers.specs.declared.Refusal.the-variants.{Mode}
 use Rattle.line_mode.specs.declared.modes.LineMode.{LineMode}
 use Rattle.line_mode.specs.declared.modes.Found.{Found}
@@ -22,7 +22,7 @@ use Rattle.line_mode.specs.Clock.{timeBetween}
 use Rattle.line_mode.specs.Modes.{hsmMode, lsmMode, modeOf, byMode}
 use Rattle.line_mode.proofs.Windows.{Apart, hsm-apart, lsm-apart}
 use Rattle.line_writer.specs.Transitions.{readings, edgeCount}
-use Rattle.line_writer.specs.Writing.{kept, writeIn, writeOf}
+use Rattle.line_writer.specs.Writing.{writeIn, writeOf}
 use Rattle.line_writer.proofs.WrittenList.{has-edges}
 use Rattle.line_reader.specs.Reading.{step, edgeOf, heardAlong, readerAfter}
 use Rattle.line_captures.specs.declared.captures.ReadOutcome.the-variants.{PastTheEnd, AtTheEnd, Attempt}
@@ -78,7 +78,7 @@ write-known : (mode : ℕ) (m : LineMode) (list : List ℕ) (place w first : ℕ
 unfolding writeOf writeIn
 write-known mode m list place w first known word room =
     ap (λ (f : Found). byMode f (λ n. writeIn n list place w first) (kept Mode list) .says) known
-    ∙ rw (lt-ltb w (2 ^ 48) word, le-ltb (length list) (place + edgeCount m w) room)
+    ∙ rw (lt-leb (2 ^ 48) w word, le-ltb (length list) (place + edgeCount m w) room)
 
 -- Over any numbers whose windows lie apart, four spacings being less than the clock's round, and any number that names them.
 pub reading-back : (mode : ℕ) (m : LineMode) → modeOf mode ≡ Known m → Apart m → 4 * m .spacing < 2 ^ 32 → ReadingBack mode m

@@ -9,10 +9,10 @@ use native.Mathlib.Omega.{arith}
 use lib.Dec.{eqb, ltb}
 use lib.ListN.{length, take, drop, length-map, length-append}
 use lib.Seq.{drop-at, length-take-le}
-use borrow.Author.Tests.{le-ltb, ne-eqb, ltb-true, ltb-false}
-use Rattle.page_word.specs.Word.{isWord}
+use borrow.Author.Tests.{le-ltb, ne-eqb, leb-false, ltb-false}
+use Rattle.page_word.specs.Word.{isWide}
 use Rattle.answers.specs.Choices.{if_then_else_}
-use Rattle.answers.specs.Answers.{Said, number, pageRead}
+use Rattle.answers.specs.Answers.{Said, number, pageRead, Leaves, leaving, kept}
 use Rattle.answers.specs.declared.Refusal.the-variants.{Room, Wide, Mode}
 use Rattle.line_mode.specs.declared.modes.LineMode.{LineMode}
 use Rattle.line_reader.specs.declared.endings.Ending.the-variants.{Good}
@@ -25,7 +25,7 @@ use Rattle.line_mode.specs.Clock.{timeBetween}
 use Rattle.line_page.specs.Pattern.{delimiterOf, hsmDelimiter, lsmDelimiter}
 use Rattle.line_page.proofs.Positions.{by-delimiter}
 use Rattle.line_writer.specs.Transitions.{transitions, sentBits, hasTransition, positionsTo, readingAt, readings, edgeCount}
-use Rattle.line_writer.specs.Writing.{Written, kept, placed, writeIn, writeOf}
+use Rattle.line_writer.specs.Writing.{placed, writeIn, writeOf}
 use Rattle.line_captures.specs.Captures.{saidOfRead, opensAt, attemptOf, readIn, readOf}
 use Rattle.line_mode.proofs.Windows.{Apart, Near, hsm-apart, lsm-apart}
 use Rattle.line_writer.proofs.SentBits.{sent-length}
@@ -140,17 +140,17 @@ module _ (m : LineMode) (apart : Apart m) (clock : 4 * m .spacing < 2 ^ 32) (w f
 in-mode : (m : LineMode) → Apart m → 4 * m .spacing < 2 ^ 32 → (list : List ℕ) (place w first n : ℕ)
     → writeIn m list place w first .says ≡ number n → saidOfRead (readIn m (writeIn m list place w first .list) place) ≡ pageRead w
 unfolding writeIn
-in-mode m apart clock list place w first n h = by (isWord w) refl (ltb (length list) (place + edgeCount m w)) refl h
+in-mode m apart clock list place w first n h = by (isWide w) refl (ltb (length list) (place + edgeCount m w)) refl h
   where
-    write : (t s : Bool) → Written
-    write t s = if not t then kept Wide list else if s then kept Room list else record { says = number (edgeCount m w); list = placed m list place w first }
+    write : (t s : Bool) → Leaves
+    write t s = if t then kept Wide list else if s then kept Room list else leaving (number (edgeCount m w)) (placed m list place w first)
 
-    by : (t : Bool) → isWord w ≡ t → (s : Bool) → ltb (length list) (place + edgeCount m w) ≡ s
+    by : (t : Bool) → isWide w ≡ t → (s : Bool) → ltb (length list) (place + edgeCount m w) ≡ s
         → write t s .says ≡ number n → saidOfRead (readIn m (write t s .list) place) ≡ pageRead w
-    by false e s f h = absurd (let k = ap (λ (a : Said). a .kind) h in omega arith)
-    by true e true f h = absurd (let k = ap (λ (a : Said). a .kind) h in omega arith)
-    by true e false f h =
-        ap saidOfRead (placed-read m apart clock w first (ltb-true w (2 ^ 48) e) list place (ltb-false (length list) (place + edgeCount m w) f))
+    by true e s f h = absurd (let k = ap (λ (a : Said). a .kind) h in omega arith)
+    by false e true f h = absurd (let k = ap (λ (a : Said). a .kind) h in omega arith)
+    by false e false f h =
+        ap saidOfRead (placed-read m apart clock w first (leb-false (2 ^ 48) w e) list place (ltb-false (length list) (place + edgeCount m w) f))
 
 -- The two calls, for every mode's number: a page that was written is read back from where it was written.
 pub write-then-read : (mode : ℕ) (list : List ℕ) (place w first n : ℕ)
@@ -161,7 +161,7 @@ write-then-read mode list place w first n h = by (eqb mode 0) (eqb mode 1) h
     named : (a b : Bool) → Found
     named a b = if a then Known hsmMode else if b then Known lsmMode else Unknown
 
-    write : (a b : Bool) → Written
+    write : (a b : Bool) → Leaves
     write a b = byMode (named a b) (λ m. writeIn m list place w first) (kept Mode list)
 
     by : (a b : Bool) → write a b .says ≡ number n → saidOfRead (byMode (named a b) (λ m. readIn m (write a b .list) place) UnknownMode) ≡ pageRead w

@@ -6,7 +6,7 @@ use Prim.Native.Nat.{ℕ, _+_, _-_, _^_, _<_, _≤_}
 use native.Mathlib.Omega.{arith}
 use lib.ListN.{length, take, drop, length-drop, drop-of-length-le}
 use lib.Seq.{drop-drop}
-use borrow.Author.Tests.{lt-ltb, le-ltb}
+use borrow.Author.Tests.{lt-ltb, le-ltb, lt-leb, le-leb}
 use Rattle.answers.specs.Answers.{Said, refused, number}
 use Rattle.answers.specs.declared.Refusal.the-variants.{Room, Wide}
 use Rattle.line_mode.specs.declared.modes.LineMode.{LineMode}
@@ -23,15 +23,15 @@ module _ (m : LineMode) (list : List ℕ) (place w first : ℕ) where
 
   pub wide : 2 ^ 48 ≤ w → Outcome (refused Wide) list
   unfolding writeIn
-  wide h = record { said = rw (le-ltb w (2 ^ 48) h); left = rw (le-ltb w (2 ^ 48) h) }
+  wide h = record { said = rw (le-leb (2 ^ 48) w h); left = rw (le-leb (2 ^ 48) w h) }
 
   module _ (fits : w < 2 ^ 48) where
     short : length list < place + edgeCount m w → Outcome (refused Room) list
     unfolding writeIn
     short h =
         record {
-          said = rw (lt-ltb w (2 ^ 48) fits, lt-ltb (length list) (place + edgeCount m w) h);
-          left = rw (lt-ltb w (2 ^ 48) fits, lt-ltb (length list) (place + edgeCount m w) h);
+          said = rw (lt-leb (2 ^ 48) w fits, lt-ltb (length list) (place + edgeCount m w) h);
+          left = rw (lt-leb (2 ^ 48) w fits, lt-ltb (length list) (place + edgeCount m w) h);
         }
 
     -- A page has edgeCount, so a place past the end has no room.
@@ -67,8 +67,8 @@ module _ (m : LineMode) (list : List ℕ) (place w first : ℕ) where
         unfolding writeIn edgeCount
         written tail e =
             record {
-              said = rw (lt-ltb w (2 ^ 48) fits, le-ltb (length list) (place + edgeCount m w) enough) (ap number counted);
-              left = rw (lt-ltb w (2 ^ 48) fits, le-ltb (length list) (place + edgeCount m w) enough) put-back;
+              said = rw (lt-leb (2 ^ 48) w fits, le-ltb (length list) (place + edgeCount m w) enough) (ap number counted);
+              left = rw (lt-leb (2 ^ 48) w fits, le-ltb (length list) (place + edgeCount m w) enough) put-back;
             }
           where
             enough : place + edgeCount m w ≤ length list

@@ -1,38 +1,27 @@
 -- 01, "The line": "Writing puts a page's readings into a lent list from a named place on, at nominal spacing from a given first reading modulo
 -- 2^32; it answers their number. All other entries keep their contents."
 use Prim.Native.Nat.{ℕ, _+_}
-use mathlib.Core.Bool.{not}
 use mathlib.Core.List.{List, _++_}
 use lib.ListN.{length, take, drop}
 use Rattle.answers.specs.Choices.{if_then_else_, _<?_}
-use Rattle.answers.specs.Answers.{Said, refused, number}
-use Rattle.answers.specs.declared.Refusal.{Refusal}
+use Rattle.answers.specs.Answers.{number, Leaves, leaving, kept}
 use Rattle.answers.specs.declared.Refusal.the-variants.{Room, Wide, Mode}
-use Rattle.page_word.specs.Word.{isWord}
+use Rattle.page_word.specs.Word.{isWide}
 use Rattle.line_mode.specs.declared.modes.LineMode.{LineMode}
 use Rattle.line_mode.specs.Modes.{modeOf, byMode}
 use Rattle.line_writer.specs.Transitions.{readings, edgeCount}
-
--- What the write call says, and the list afterwards.
-pub record Written : Type 0 where
-  pub says : Said
-  pub list : List ℕ
-
--- On a refusal "list kept".
-abbrev pub kept : Refusal → List ℕ → Written
-kept refusal list = record { says = refused refusal; list = list }
 
 -- The list with the page's readings from the place on.
 abbrev pub placed : (mode : LineMode) (list : List ℕ) (place word first : ℕ) → List ℕ
 placed mode list place word first = take place list ++ (readings mode word first ++ drop (place + edgeCount mode word) list)
 
 -- In a mode: Wide before Room. Row 12 of the refusals, Room: "place past the end; writing: entries from it on fewer than the page's".
-unfoldable pub writeIn : (mode : LineMode) (list : List ℕ) (place word first : ℕ) → Written
+unfoldable pub writeIn : (mode : LineMode) (list : List ℕ) (place word first : ℕ) → Leaves
 writeIn mode list place word first =
-    if not (isWord word) then kept Wide list
+    if isWide word then kept Wide list
     else if length list <? place + edgeCount mode word then kept Room list
-    else record { says = number (edgeCount mode word); list = placed mode list place word first }
+    else leaving (number (edgeCount mode word)) (placed mode list place word first)
 
 -- The write call. "Order: Mode, Wide, Room."
-unfoldable pub writeOf : (mode : ℕ) (list : List ℕ) (place word first : ℕ) → Written
+unfoldable pub writeOf : (mode : ℕ) (list : List ℕ) (place word first : ℕ) → Leaves
 writeOf mode list place word first = byMode (modeOf mode) (λ m. writeIn m list place word first) (kept Mode list)

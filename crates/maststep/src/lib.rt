@@ -6,7 +6,7 @@ ghost use Rattle.page_resolve.specs.Resolving.{resolveSays};
 ghost use Rattle.line_mode.specs.Gaps.{judged};
 ghost use Rattle.line_writer.specs.Writing.{writeOf};
 ghost use Rattle.line_captures.specs.Captures.{saidOfRead, readOf};
-ghost use Rattle.port_step.specs.Runs.{runSays, runLeaves};
+ghost use Rattle.port_step.specs.Runs.{runOf};
 ghost use Rattle.maststep.specs.NextPlace.{nextLeft};
 use line_captures::ReadOutcome;
 
@@ -23,7 +23,7 @@ pub extern "C" fn maststep_check(word: u64) -> u64
 pub extern "C" fn maststep_resolve(own: u64, partner: u64) -> u64
     ensures { λ r. ⌜ r ≡ packed (resolveSays own partner) ⌝ }
 {
-    page_resolve::resolve(own, partner).packed()
+    page_resolve::resolve(own, partner).answer().packed()
 }
 
 // How a gap counts in a mode, or 14.
@@ -75,8 +75,8 @@ pub extern "C" fn maststep_read(list: &[u32], place: usize, mode: u32, next: &mu
 // A fresh device takes the events, three cells each, and the list gets one answer for each: their number, or 12.
 #[no_mangle]
 pub extern "C" fn maststep_run(events: &[u64], answers: &mut [u64]) -> u64
-    ensures says { λ r. ⌜ r ≡ packed (runSays (now (events .entry)) (now (answers .entry))) ⌝ }
-    ensures leaves { λ _. ⌜ now (answers .exit) ≡ runLeaves (now (events .entry)) (now (answers .entry)) ⌝ }
+    ensures says { λ r. ⌜ r ≡ packed (runOf (now (events .entry)) (now (answers .entry)) .says) ⌝ }
+    ensures leaves { λ _. ⌜ now (answers .exit) ≡ runOf (now (events .entry)) (now (answers .entry)) .list ⌝ }
 {
     port_step::run(events, answers).packed()
 }

@@ -52,9 +52,8 @@ pub fn bits_agree(bits: u64) -> bool
 pub fn check(word: u64) -> Answer
     ensures { λ r. ⌜ said r ≡ checked word ⌝ }
 {
-    if word < WIDE {
-        Answer::Number(check_bits(word) as u64)
-    } else {
-        Answer::Refused(Refusal::Wide)
+    if WIDE <= word {
+        return Answer::Refused(Refusal::Wide);
     }
+    Answer::Number(check_bits(word) as u64)
 }

@@ -9,8 +9,8 @@ use lib.Dec.{eqb, ltb}
 use borrow.Author.Tests.{eq-eqb, ne-eqb, eqb-true, eqb-false, ltb-true, ltb-false, lt-ltb, le-ltb}
 use Rattle.page_word.specs.Fields.{fieldOf}
 use Rattle.page_word.specs.declared.fields.Field.the-variants.{Nonce}
-use Rattle.answers.specs.declared.Answer.{Answer}
-use Rattle.answers.specs.declared.Answer.the-variants.{Nothing, Refused, Page, Order, Settled, Value, Number, Quiet, Unfit}
+use Rattle.page_resolve.specs.declared.resolving.Resolution.{Resolution}
+use Rattle.page_resolve.specs.declared.resolving.Resolution.the-variants.{Refused, Settled}
 use Rattle.answers.specs.declared.Refusal.the-variants.{Wide, Selector, Tie}
 use Rattle.page_resolve.specs.declared.rates.Rate.{Rate}
 use Rattle.page_resolve.specs.declared.rates.Rate.the-variants.{Ability, Missing}
@@ -18,19 +18,14 @@ use Rattle.page_resolve.specs.declared.roles.Role.{Role}
 use Rattle.page_resolve.specs.declared.roles.Role.the-variants.{Master, Slave, Fault}
 use Rattle.page_resolve.specs.Rates.{hasAbility, commonOf, firstOf}
 use Rattle.page_resolve.specs.Roles.{isForced, hasT4, isHigher, masterIf, bothForced, roleBy, roleOf}
-use Rattle.page_resolve.specs.Resolving.{isWide, hasOtherSelector, isTie, settledBy, resolutionOf}
+use Rattle.page_word.specs.Word.{isWide}
+use Rattle.page_word.specs.Fields.{hasOtherSelector, isTie}
+use Rattle.page_resolve.specs.Resolving.{settledBy, resolutionOf}
 
 -- What the other end answers.
-abbrev pub opposite : Answer → Answer
-opposite Nothing = Nothing
+abbrev pub opposite : Resolution → Resolution
 opposite (Refused refusal) = Refused refusal
-opposite (Page word) = Page word
-opposite (Order word) = Order word
 opposite (Settled ability master) = Settled ability (not master)
-opposite (Value value) = Value value
-opposite (Number n) = Number n
-opposite Quiet = Quiet
-opposite Unfit = Unfit
 
 abbrev pub otherRole : Role → Role
 otherRole Master = Slave
@@ -89,10 +84,10 @@ settled-other (Ability n) Slave = refl
 settled-other (Ability n) Fault = refl
 
 -- The first three refusals, and what follows them.
-abbrev guarded : Bool → Bool → Bool → Answer → Answer
+abbrev guarded : Bool → Bool → Bool → Resolution → Resolution
 guarded wide other tie x = cond wide (Refused Wide) (cond other (Refused Selector) (cond tie (Refused Tie) x))
 
-guarded-other : (wide other tie : Bool) (x y : Answer) → (tie ≡ false → y ≡ opposite x) → guarded wide other tie y ≡ opposite (guarded wide other tie x)
+guarded-other : (wide other tie : Bool) (x y : Resolution) → (tie ≡ false → y ≡ opposite x) → guarded wide other tie y ≡ opposite (guarded wide other tie x)
 guarded-other true other tie x y h = refl
 guarded-other false true tie x y h = refl
 guarded-other false false true x y h = refl

@@ -8,8 +8,8 @@ use native.Mathlib.Nat.{le-of-suc-le-suc, not-suc-le-zero}
 use native.Mathlib.Omega.{arith}
 use lib.ListN.{length, getD}
 use Rattle.page_word.proofs.ComputedTest.{and-left, and-right}
-use Rattle.answers.specs.declared.Answer.{Answer}
-use Rattle.answers.specs.declared.Answer.the-variants.{Refused, Settled}
+use Rattle.page_resolve.specs.declared.resolving.Resolution.{Resolution}
+use Rattle.page_resolve.specs.declared.resolving.Resolution.the-variants.{Refused, Settled}
 use Rattle.answers.specs.declared.Refusal.the-variants.{Wide, Selector, Tie, None}
 use Rattle.page_resolve.specs.declared.rates.Rate.{Rate}
 use Rattle.page_resolve.specs.declared.rates.Rate.the-variants.{Ability, Missing}
@@ -17,7 +17,9 @@ use Rattle.page_resolve.specs.declared.roles.Role.{Role}
 use Rattle.page_resolve.specs.declared.roles.Role.the-variants.{Master, Slave, Fault}
 use Rattle.page_resolve.specs.Rates.{hasAbility, isCommon, commonOf, firstOf}
 use Rattle.page_resolve.specs.Roles.{roleOf}
-use Rattle.page_resolve.specs.Resolving.{isWide, hasOtherSelector, isTie, settledBy, resolutionOf}
+use Rattle.page_word.specs.Word.{isWide}
+use Rattle.page_word.specs.Fields.{hasOtherSelector, isTie}
+use Rattle.page_resolve.specs.Resolving.{settledBy, resolutionOf}
 use Rattle.page_resolve.proofs.CommonAbilities.{first-yes, first-no}
 
 -- The ability stands at a place of the list, and is the first there that both words have.
@@ -81,14 +83,14 @@ none-common (n ∷ rest) own partner e = by (none-common rest own partner) (isCo
     by below false other = each other (below (ap firstOf (sym (first-no n rest own partner other)) ∙ e))
 
 -- An answer that is none of the first three refusals comes from the rate and the role.
-settles : (wide other tie : Bool) (x : Answer) (ability : ℕ) (master : Bool)
+settles : (wide other tie : Bool) (x : Resolution) (ability : ℕ) (master : Bool)
     → cond wide (Refused Wide) (cond other (Refused Selector) (cond tie (Refused Tie) x)) ≡ Settled ability master → x ≡ Settled ability master
 settles true other tie x ability master e = absurd (let z : _≡_ {A = ℕ} 0 1 = cc e in omega arith)
 settles false true tie x ability master e = absurd (let z : _≡_ {A = ℕ} 0 1 = cc e in omega arith)
 settles false false true x ability master e = absurd (let z : _≡_ {A = ℕ} 0 1 = cc e in omega arith)
 settles false false false x ability master e = e
 
-lacks : (wide other tie : Bool) (x : Answer)
+lacks : (wide other tie : Bool) (x : Resolution)
     → cond wide (Refused Wide) (cond other (Refused Selector) (cond tie (Refused Tie) x)) ≡ Refused None → x ≡ Refused None
 lacks true other tie x e = absurd (let z : _≡_ {A = ℕ} 0 1 = cc e in omega arith)
 lacks false true tie x e = absurd (let z : _≡_ {A = ℕ} 0 1 = cc e in omega arith)

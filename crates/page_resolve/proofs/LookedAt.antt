@@ -6,8 +6,8 @@ use Prim.Native.Nat.{ℕ, suc, _<_, _^_}
 use native.Mathlib.Omega.{arith}
 use lib.Dec.{eqb, ltb}
 use lib.ListN.{length, getD}
-use borrow.Author.Tests.{lt-ltb}
-use Rattle.page_word.specs.Word.{isWord}
+use borrow.Author.Tests.{lt-leb}
+use Rattle.page_word.specs.Word.{isWide}
 use Rattle.page_word.specs.Fields.{fieldOf, withField}
 use Rattle.page_word.specs.declared.fields.Field.{Field}
 use Rattle.page_word.specs.declared.fields.Field.the-variants.{Selector, EchoedNonce, Pause, ForcedRole, RemoteFault, Ack, NextPage, Nonce, Abilities}
@@ -20,7 +20,7 @@ use Rattle.page_resolve.proofs.Exchange.{opposite, exchanged}
 
 -- Two numbers that are the same as far as resolving looks.
 pub record Alike (order : List ℕ) (a b : ℕ) : Type 0 where
-  pub word : isWord a ≡ isWord b
+  pub word : isWide a ≡ isWide b
   pub selector : fieldOf Selector a ≡ fieldOf Selector b
   pub forced : fieldOf ForcedRole a ≡ fieldOf ForcedRole b
   pub nonce : fieldOf Nonce a ≡ fieldOf Nonce b
@@ -91,7 +91,7 @@ pub not-looked-at : (order : List ℕ) (f : Field) (v w : ℕ) → isLookedAt f 
 unfolding hasAbility
 not-looked-at order f v w h small =
     record {
-      word = lt-ltb (withField f v w) (2 ^ 48) (set-stays-word f v w small) ∙ sym (lt-ltb w (2 ^ 48) small);
+      word = lt-leb (2 ^ 48) (withField f v w) (set-stays-word f v w small) ∙ sym (lt-leb (2 ^ 48) w small);
       selector = set-keeps f Selector v w (apart f Selector h refl);
       forced = set-keeps f ForcedRole v w (apart f ForcedRole h refl);
       nonce = set-keeps f Nonce v w (apart f Nonce h refl);

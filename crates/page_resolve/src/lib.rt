@@ -3,4 +3,5 @@ mod rates;
 mod resolving;
 mod roles;
 
+pub use resolving::Resolution;
 pub use resolving::resolve;

@@ -1,7 +1,7 @@
 // The fields of a word, by name. Every 64-bit number is taken: bits above D47 are neither looked at nor changed.
 ghost use mathlib.Core.Path.{_≡_};
 ghost use Prim.Native.Nat.{_+_, _≤_};
-ghost use Rattle.page_word.specs.Fields.{part, withPart, fieldOf, withField};
+ghost use Rattle.page_word.specs.Fields.{part, withPart, fieldOf, withField, hasOtherSelector, isTie};
 
 // 2^48: the first number that is no word.
 pub const WIDE: u64 = 0x1000000000000;
@@ -70,4 +70,18 @@ pub fn set(word: u64, field: Field, value: u64) -> u64
         Field::Nonce => with_part(word, value, 16, 5),
         Field::Abilities => with_part(word, value, 21, 27),
     }
+}
+
+// Whether a word is of another kind than the one that is negotiated with.
+pub fn has_other_selector(word: u64) -> bool
+    ensures { λ r. ⌜ r ≡ hasOtherSelector word ⌝ }
+{
+    get(word, Field::Selector) != 1
+}
+
+// Whether two words have the same nonce, so that neither side is told from the other.
+pub fn is_tie(own: u64, word: u64) -> bool
+    ensures { λ r. ⌜ r ≡ isTie own word ⌝ }
+{
+    get(own, Field::Nonce) == get(word, Field::Nonce)
 }

@@ -1,80 +1,90 @@
 -- 01, "The negotiation (LSM)": the edge event, and what a good page does in each state.
 use Prim.Native.Nat.{ℕ}
-use mathlib.Core.Bool.{Bool, true, false, cond, not, _&&_, _||_}
-use lib.Dec.{eqb}
+use mathlib.Core.Bool.{Bool, true, false, not, _&&_, _||_}
+use Rattle.answers.specs.declared.Refusal.the-variants as refusal
+use Rattle.answers.specs.Choices.{if_then_else_, _=?_}
 use Rattle.answers.specs.Answers.{nothing, refused, pageRead}
-use Rattle.answers.specs.declared.Refusal.the-variants.{Selector, Tie, Changed, Echo}
-use Rattle.page_word.specs.Fields.{fieldOf, withField}
+use Rattle.page_word.specs.Fields.{fieldOf, withField, hasOtherSelector, isTie}
 use Rattle.page_word.specs.declared.fields.Field.the-variants as field
-use Rattle.page_resolve.specs.Resolving.{hasOtherSelector, isTie}
-use Rattle.line_reader.specs.Reading.{Brings, edgeOf}
+use Rattle.line_mode.specs.declared.modes.LineMode.{LineMode}
+use Rattle.line_reader.specs.declared.endings.Ending.the-variants.{Good, Gap, Cut, Check}
+use Rattle.line_reader.specs.declared.endings.Heard.{Heard}
+use Rattle.line_reader.specs.declared.endings.Heard.the-variants.{Nothing, Ended}
+use Rattle.line_reader.specs.declared.reader.Step.{Step}
+use Rattle.line_reader.specs.Reading.{edgeOf}
 use Rattle.port_state.specs.declared.State.{State}
 use Rattle.port_state.specs.declared.State.the-variants.{Off, Break, Ability, Ack, Complete, CheckLink, Up}
-use Rattle.port_state.specs.declared.Flags.{Flags}
 use Rattle.port_state.specs.declared.Device.{Device}
-use Rattle.port_state.specs.Memory.{Due, due, registersOf, intoBreak, withState, withPartner, withFlags, withTalk, withReader}
-use Rattle.line_mode.specs.declared.modes.LineMode.{LineMode}
-use Rattle.port_state.specs.Changes.{marking, holding, counting}
+use Rattle.port_state.specs.PageRegisters.{registersOf}
+use Rattle.port_state.specs.Memory.{Due, due, intoBreak}
+use Rattle.port_state.specs.Changes.{withState, withPartner, withFlags, withHeld, withCount, withMark, withReader}
 
--- "mark "heard" at its last edge"
-abbrev pub heardAt : ℕ → Device → Device
-heardAt reading d = withTalk (marking true reading (d .talk)) d
+-- "hold it, mark "heard" at its last edge, to Ack"
+abbrev pub holds : (word reading : ℕ) → Device → Device
+holds word reading d = withState Ack (withMark true reading (withHeld word d))
 
--- "Ability: on a good page, S other than 1: Selector, stay. T equal to own: Tie, to Break. Else hold it, mark "heard" at its last edge, to Ack."
+-- "Ability: on a good page, S other than 1: Selector, stay. T equal to own: Tie, to Break. Else hold it, .."
 -- "A good page not refused answers itself."
-unfoldable pub pageInAbility : ℕ → ℕ → Device → Due
+unfoldable pub pageInAbility : (word reading : ℕ) → Device → Due
 pageInAbility word reading d =
-    cond (hasOtherSelector word) (due (refused Selector) d)
-    (cond (isTie (d .talk .own) word) (due (refused Tie) (intoBreak reading d))
-    (due (pageRead word) (withState Ack (withTalk (marking true reading (holding word (d .talk))) d))))
+    if hasOtherSelector word then due (refused refusal.Selector) d
+    else if isTie (d .link .talk .own) word then due (refused refusal.Tie) (intoBreak reading d)
+    else due (pageRead word) (holds word reading d)
 
--- "set Page received, set Remote fault if D13"
-abbrev pub flagsBy : ℕ → Flags → Flags
-flagsBy word flags = record { received = true; fault = eqb (fieldOf field.RemoteFault word) 1 || flags .fault }
+-- "set Remote fault if D13"
+abbrev pub faultAfter : (word : ℕ) (fault : Bool) → Bool
+faultAfter word fault = fieldOf field.RemoteFault word =? 1 || fault
 
 -- "mark heard, load 7.517-7.519 with this page, set Page received, set Remote fault if D13, count 0, to Complete"
-abbrev pub intoComplete : ℕ → ℕ → Device → Device
+abbrev pub intoComplete : (word reading : ℕ) → Device → Device
 intoComplete word reading d =
     withState Complete
-    (withPartner (registersOf word)
-    (withFlags (flagsBy word (d .flags)) (withTalk (marking true reading (counting 0 (d .talk))) d)))
+    (withCount 0
+    (withFlags true (faultAfter word (d .lasting .flags .fault)) (withPartner (registersOf word) (withMark true reading d))))
 
 -- What of a word is compared: the word with Ack and E 0. A number of 2^48 or more, held only by a record that no call has made, differs from every
 -- page in its upper bits.
-unfoldable pub beyondAckAndEcho : ℕ → ℕ
-beyondAckAndEcho w = withField field.Ack 0 (withField field.EchoedNonce 0 w)
+unfoldable pub beyondAckAndEcho : (word : ℕ) → ℕ
+beyondAckAndEcho word = withField field.Ack 0 (withField field.EchoedNonce 0 word)
 
 -- "differs from the held one beyond Ack and E"
-abbrev pub isChanged : ℕ → ℕ → Bool
-isChanged word held = not (eqb (beyondAckAndEcho word) (beyondAckAndEcho held))
+abbrev pub isChanged : (word held : ℕ) → Bool
+isChanged word held = not (beyondAckAndEcho word =? beyondAckAndEcho held)
 
 -- "E not own T"
-abbrev pub echoesOther : ℕ → ℕ → Bool
-echoesOther own word = not (eqb (fieldOf field.EchoedNonce word) (fieldOf field.Nonce own))
+abbrev pub echoesOther : (own word : ℕ) → Bool
+echoesOther own word = not (fieldOf field.EchoedNonce word =? fieldOf field.Nonce own)
 
 -- "Ack: on a good page that differs from the held one beyond Ack and E: Changed, to Break. Ack 0: mark heard. Ack 1 and E not own T: Echo, to
 -- Break. Else mark heard, load ..."
-unfoldable pub pageInAck : ℕ → ℕ → Device → Due
+unfoldable pub pageInAck : (word reading : ℕ) → Device → Due
 pageInAck word reading d =
-    cond (isChanged word (d .talk .held)) (due (refused Changed) (intoBreak reading d))
-    (cond (eqb (fieldOf field.Ack word) 0) (due (pageRead word) (heardAt reading d))
-    (cond (echoesOther (d .talk .own) word) (due (refused Echo) (intoBreak reading d)) (due (pageRead word) (intoComplete word reading d))))
+    if isChanged word (d .link .talk .held) then due (refused refusal.Changed) (intoBreak reading d)
+    else if fieldOf field.Ack word =? 0 then due (pageRead word) (withMark true reading d)
+    else if echoesOther (d .link .talk .own) word then due (refused refusal.Echo) (intoBreak reading d)
+    else due (pageRead word) (intoComplete word reading d)
 
 -- "Complete: a good page marks heard." In the other states no edge is read, so no page comes.
-unfoldable pub pageIn : State → ℕ → ℕ → Device → Due
+unfoldable pub pageIn : State → (word reading : ℕ) → Device → Due
 pageIn Off word reading d = due nothing d
 pageIn Break word reading d = due nothing d
 pageIn Ability word reading d = pageInAbility word reading d
 pageIn Ack word reading d = pageInAck word reading d
-pageIn Complete word reading d = due (pageRead word) (heardAt reading d)
+pageIn Complete word reading d = due (pageRead word) (withMark true reading d)
 pageIn CheckLink word reading d = due nothing d
 pageIn Up word reading d = due nothing d
 
--- What the reader says is answered, and the reader moves; if it is a good page (kind 0x80), the state decides.
-unfoldable pub listened : Brings → ℕ → Device → Due
-listened b reading d =
-    let next = withReader (b .reader) d in
-    cond (eqb (b .says .kind) 0x80) (pageIn (d .state) (b .says .value) reading next) (due (b .says) next)
+-- What was heard: of a good page the state decides, anything else is answered.
+unfoldable pub hears : Heard → (reading : ℕ) → Device → Due
+hears Nothing reading d = due nothing d
+hears (Ended (Good word)) reading d = pageIn (d .state) word reading d
+hears (Ended Gap) reading d = due (refused refusal.Gap) d
+hears (Ended Cut) reading d = due (refused refusal.Cut) d
+hears (Ended Check) reading d = due (refused refusal.Check) d
+
+-- The reader moves first.
+abbrev pub listened : Step → (reading : ℕ) → Device → Due
+listened step reading d = hears (step .heard) reading (withReader (step .reader) d)
 
 -- The states in which pages are heard and ordered: "In Ability, Ack and Complete".
 abbrev pub isTalking : State → Bool
@@ -87,6 +97,7 @@ isTalking CheckLink = false
 isTalking Up = false
 
 -- In Off and Break, Check-link and Up edges are ignored, and "While a page is out, edges are ignored."
-unfoldable pub edgeDue : LineMode → ℕ → Device → Due
+unfoldable pub edgeDue : LineMode → (reading : ℕ) → Device → Due
 edgeDue mode reading d =
-    cond (isTalking (d .state) && not (d .talk .out)) (listened (edgeOf mode (d .reader) reading) reading d) (due nothing d)
+    if isTalking (d .state) && not (d .link .talk .out) then listened (edgeOf mode (d .link .reader) reading) reading d
+    else due nothing d

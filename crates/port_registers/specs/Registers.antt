@@ -1,95 +1,99 @@
 -- 01, "Registers (MMD 7)".
-use Prim.Native.Nat.{ℕ, _+_, _^_}
-use mathlib.Core.Bool.{Bool, cond, _||_}
-use lib.Dec.{eqb}
-use Rattle.answers.specs.Answers.{nothing, refused, registerValue}
+use Prim.Native.Nat.{ℕ, _+_, _-_, _/_, _%_, _^_}
+use mathlib.Core.Bool.{Bool, false, _||_}
 use Rattle.answers.specs.declared.Refusal.the-variants as refusal
+use Rattle.answers.specs.Choices.{if_then_else_, _<?_, _=?_}
+use Rattle.answers.specs.Answers.{nothing, refused, registerValue}
 use Rattle.page_word.specs.Word.{hasBit}
-use Rattle.port_state.specs.declared.PageRegisters.{PageRegisters}
-use Rattle.port_state.specs.declared.Talk.{Talk}
+use Rattle.port_state.specs.declared.page_registers.PageRegisters.{PageRegisters}
+use Rattle.port_state.specs.declared.page_registers.Third.{Third}
+use Rattle.port_state.specs.declared.page_registers.Third.the-variants.{Low, Middle, High}
+use Rattle.port_state.specs.declared.State.{State}
 use Rattle.port_state.specs.declared.Device.{Device}
-use Rattle.port_state.specs.Memory.{Due, due, isOff, isUp, noFlags, freshDevice, intoBreak, intoOff, withAdvertised, withFlags, withTalk}
+use Rattle.port_state.specs.PageRegisters.{thirdOf, withThird}
+use Rattle.port_state.specs.Memory.{Due, due, isOff, isUp, freshDevice, intoBreak, intoOff}
+use Rattle.port_state.specs.Changes.{withAdvertised, withFlags, withLatch}
+use Rattle.port_registers.specs.declared.Bank.{Bank}
+use Rattle.port_registers.specs.declared.Bank.the-variants.{Advertised, Partner}
 use Rattle.port_registers.specs.declared.Register.{Register}
-use Rattle.port_registers.specs.declared.Register.the-variants.{Control, Status, AdvertisedLow, AdvertisedMiddle, AdvertisedHigh, PartnerLow, PartnerMiddle, PartnerHigh, Missing}
+use Rattle.port_registers.specs.declared.Register.the-variants.{Control, Status, Part, Missing}
+
+-- From 514 on the registers stand in banks of three, each of which holds a page: "D15-0, D31-16, D47-32".
+abbrev pub thirdAt : (place : ℕ) → Third
+thirdAt place = if place =? 0 then Low else if place =? 1 then Middle else High
+
+-- The banks, in order: "514-516: .. advertised. 517-519: the partner's".
+abbrev pub inBank : (bank : ℕ) → Third → Register
+inBank bank third =
+    if bank =? 0 then Part Advertised third
+    else if bank =? 1 then Part Partner third
+    else Missing
 
 -- The register that a number names; row 10 of the refusals, Register: "not 512-519".
-unfoldable pub registerOf : ℕ → Register
+unfoldable pub registerOf : (number : ℕ) → Register
 registerOf number =
-    cond (eqb number 512) Control
-    (cond (eqb number 513) Status
-    (cond (eqb number 514) AdvertisedLow
-    (cond (eqb number 515) AdvertisedMiddle
-    (cond (eqb number 516) AdvertisedHigh
-    (cond (eqb number 517) PartnerLow
-    (cond (eqb number 518) PartnerMiddle
-    (cond (eqb number 519) PartnerHigh Missing)))))))
+    if number <? 512 then Missing
+    else if number =? 512 then Control
+    else if number =? 513 then Status
+    else inBank ((number - 514) / 3) (thirdAt ((number - 514) % 3))
 
--- A value that has bit n alone, or is 0.
-abbrev pub bitIf : ℕ → Bool → ℕ
-bitIf n test = cond test (2 ^ n) 0
+-- What a bank holds.
+abbrev pub bankOf : Bank → Device → PageRegisters
+bankOf Advertised d = d .lasting .advertised
+bankOf Partner d = d .link .partner
 
 -- 512: "It reads as bit 12 alone", "bit 12 is enable".
 abbrev pub controlValue : Device → ℕ
-controlValue d = cond (isOff (d .state)) 0 (2 ^ 12)
+controlValue d = if isOff (d .state) then 0 else 2 ^ 12
+
+-- A value that has bit n alone, or is 0.
+abbrev pub bitIf : (n : ℕ) (test : Bool) → ℕ
+bitIf n test = if test then 2 ^ n else 0
 
 -- "513, read only: 6 Page received, 5 complete (state Up), 4 Remote fault, 3 always one, 2 link latch."
-unfoldable pub statusBits : Bool → Bool → Bool → Bool → ℕ
+unfoldable pub statusBits : (received up fault latch : Bool) → ℕ
 statusBits received up fault latch = bitIf 6 received + (bitIf 5 up + (bitIf 4 fault + (2 ^ 3 + bitIf 2 latch)))
 
 abbrev pub statusValue : Device → ℕ
-statusValue d = statusBits (d .flags .received) (isUp (d .state)) (d .flags .fault) (d .talk .latch)
-
-abbrev pub withLatch : Bool → Talk → Talk
-withLatch latch t =
-    record { own = t .own; held = t .held; out = t .out; count = t .count; heard = t .heard; mark = t .mark; timer = t .timer; latch = latch }
+statusValue d = statusBits (d .lasting .flags .received) (isUp (d .state)) (d .lasting .flags .fault) (d .link .talk .latch)
 
 -- "A read answers, then clears 6 and 4 and sets the latch to "state is Up"."
 abbrev pub statusRead : Device → Device
-statusRead d = withFlags noFlags (withTalk (withLatch (isUp (d .state)) (d .talk)) d)
+statusRead d = withFlags false false (withLatch (isUp (d .state)) d)
 
--- A read, by register. "514-516: D15-0, D31-16, D47-32 advertised. 517-519: the partner's, read only."
+-- A read, by register.
 abbrev pub readAt : Register → Device → Due
 readAt Control d = due (registerValue (controlValue d)) d
 readAt Status d = due (registerValue (statusValue d)) (statusRead d)
-readAt AdvertisedLow d = due (registerValue (d .advertised .low)) d
-readAt AdvertisedMiddle d = due (registerValue (d .advertised .middle)) d
-readAt AdvertisedHigh d = due (registerValue (d .advertised .high)) d
-readAt PartnerLow d = due (registerValue (d .partner .low)) d
-readAt PartnerMiddle d = due (registerValue (d .partner .middle)) d
-readAt PartnerHigh d = due (registerValue (d .partner .high)) d
+readAt (Part bank third) d = due (registerValue (thirdOf third (bankOf bank d))) d
 readAt Missing d = due (refused refusal.Register) d
 
-unfoldable pub readDue : ℕ → Device → Due
+unfoldable pub readDue : (number : ℕ) → Device → Due
 readDue number d = readAt (registerOf number) d
 
--- "512: bit 15 written as one makes the device fresh (Off, all zero), the rest of that write unused. Otherwise bit 12 is enable: 0 goes Off; 1
+-- "if bit 9 is set or it was off"
+abbrev pub restartsBy : (value : ℕ) → State → Bool
+restartsBy value state = hasBit value 9 || isOff state
+
+-- A write to 512: "bit 15 written as one makes the device fresh (Off, all zero), the rest of that write unused. Otherwise bit 12 is enable: 0 goes Off; 1
 -- goes to Break if bit 9 is set or it was off." Else it stays as it was.
-unfoldable pub commanded : ℕ → ℕ → Device → Device
+unfoldable pub commanded : (value reading : ℕ) → Device → Device
 commanded value reading d =
-    cond (hasBit value 15) freshDevice
-    (cond (hasBit value 12) (cond (hasBit value 9 || isOff (d .state)) (intoBreak reading d) d) (intoOff d))
+    if hasBit value 15 then freshDevice
+    else if hasBit value 12 then (if restartsBy value (d .state) then intoBreak reading d else d)
+    else intoOff d
 
--- The advertised registers with one of them written.
-abbrev pub lowWritten : ℕ → PageRegisters → PageRegisters
-lowWritten value p = record { low = value; middle = p .middle; high = p .high }
-
-abbrev pub middleWritten : ℕ → PageRegisters → PageRegisters
-middleWritten value p = record { low = p .low; middle = value; high = p .high }
-
-abbrev pub highWritten : ℕ → PageRegisters → PageRegisters
-highWritten value p = record { low = p .low; middle = p .middle; high = value }
+-- A write to a bank. "517-519: the partner's, read only."
+abbrev pub bankWritten : Bank → Third → (value : ℕ) → Device → Device
+bankWritten Advertised third value d = withAdvertised (withThird third value (d .lasting .advertised)) d
+bankWritten Partner third value d = d
 
 -- A write, by register. "Writes to read-only registers answer nothing and change nothing."
-abbrev pub writeAt : Register → ℕ → ℕ → Device → Due
+abbrev pub writeAt : Register → (value reading : ℕ) → Device → Due
 writeAt Control value reading d = due nothing (commanded value reading d)
 writeAt Status value reading d = due nothing d
-writeAt AdvertisedLow value reading d = due nothing (withAdvertised (lowWritten value (d .advertised)) d)
-writeAt AdvertisedMiddle value reading d = due nothing (withAdvertised (middleWritten value (d .advertised)) d)
-writeAt AdvertisedHigh value reading d = due nothing (withAdvertised (highWritten value (d .advertised)) d)
-writeAt PartnerLow value reading d = due nothing d
-writeAt PartnerMiddle value reading d = due nothing d
-writeAt PartnerHigh value reading d = due nothing d
+writeAt (Part bank third) value reading d = due nothing (bankWritten bank third value d)
 writeAt Missing value reading d = due (refused refusal.Register) d
 
-unfoldable pub writeDue : ℕ → ℕ → ℕ → Device → Due
+unfoldable pub writeDue : (number value reading : ℕ) → Device → Due
 writeDue number value reading d = writeAt (registerOf number) value reading d

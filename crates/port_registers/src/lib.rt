@@ -1,61 +1,102 @@
 // The registers 7.512 to 7.519: reading and writing them.
 ghost use mathlib.Core.Path.{_≡_};
-ghost use mathlib.Core.Bool.{cond};
 ghost use Prim.Native.Nat.{_≤_, _/_, _%_, _^_};
-ghost use lib.Dec.{eqb};
+ghost use Rattle.answers.specs.Choices.{if_then_else_, _=?_};
 ghost use Rattle.answers.specs.Answers.{registerValue};
-ghost use Rattle.port_state.specs.Memory.{Meets, due, isOff, isUp, withAdvertised};
-ghost use Rattle.port_registers.specs.Registers.{registerOf, statusBits, statusValue, statusRead, readDue, commanded, lowWritten, middleWritten, highWritten, writeDue};
+ghost use Rattle.port_state.specs.Memory.{Meets, due, isOff, isUp};
+ghost use Rattle.port_registers.specs.Registers.{thirdAt, inBank, registerOf, bankOf, statusBits, statusValue, statusRead, readDue, restartsBy, commanded, bankWritten, writeDue};
 use answers::Answer;
 use answers::Refusal;
 use port_state::Device;
+use port_state::PageRegisters;
 use port_state::Reply;
 use port_state::State;
+use port_state::Third;
 use port_state::answered;
 use port_state::enter_break;
 use port_state::enter_off;
+use port_state::third_of;
+use port_state::with_advertised;
+use port_state::with_flags;
+use port_state::with_latch;
+use port_state::with_third;
+
+// Three registers that hold a page.
+pub(crate) enum Bank {
+    Advertised,
+    Partner,
+}
 
 // The register that a number names.
 pub(crate) enum Register {
     Control,
     Status,
-    AdvertisedLow,
-    AdvertisedMiddle,
-    AdvertisedHigh,
-    PartnerLow,
-    PartnerMiddle,
-    PartnerHigh,
+    Part { bank: Bank, third: Third },
     Missing,
+}
+
+// A bank's registers, in order.
+fn third_at(place: u64) -> Third
+    ensures { λ r. ⌜ r ≡ thirdAt place ⌝ }
+{
+    if place == 0 {
+        return Third::Low;
+    }
+    if place == 1 {
+        return Third::Middle;
+    }
+    Third::High
+}
+
+// The banks, in order.
+fn in_bank(bank: u64, third: Third) -> Register
+    ensures { λ r. ⌜ r ≡ inBank bank third ⌝ }
+{
+    if bank == 0 {
+        return Register::Part {
+            bank: Bank::Advertised,
+            third: third,
+        };
+    }
+    if bank == 1 {
+        return Register::Part {
+            bank: Bank::Partner,
+            third: third,
+        };
+    }
+    Register::Missing
 }
 
 fn register_of(number: u64) -> Register
     ensures { λ r. ⌜ r ≡ registerOf number ⌝ }
 {
+    if number < 512 {
+        return Register::Missing;
+    }
     if number == 512 {
         return Register::Control;
     }
     if number == 513 {
         return Register::Status;
     }
-    if number == 514 {
-        return Register::AdvertisedLow;
+    let place = number - 514;
+    in_bank(place / 3, third_at(place % 3))
+}
+
+// What a bank holds.
+fn bank_of(device: Device, bank: Bank) -> PageRegisters
+    ensures { λ r. ⌜ r ≡ bankOf bank device ⌝ }
+{
+    match bank {
+        Bank::Advertised => {
+            let lasting = device.lasting;
+            lasting.advertised
+        }
+        Bank::Partner => {
+            let link = device.link;
+            link.partner
+        }
     }
-    if number == 515 {
-        return Register::AdvertisedMiddle;
-    }
-    if number == 516 {
-        return Register::AdvertisedHigh;
-    }
-    if number == 517 {
-        return Register::PartnerLow;
-    }
-    if number == 518 {
-        return Register::PartnerMiddle;
-    }
-    if number == 519 {
-        return Register::PartnerHigh;
-    }
-    Register::Missing
 }
 
 fn is_off(state: State) -> bool
@@ -88,7 +129,7 @@ fn is_up(state: State) -> bool
 
 // What 512 reads as.
 fn control_value(state: State) -> u16
-    ensures { λ r. ⌜ r ≡ cond (isOff state) 0 (2 ^ 12) ⌝ }
+    ensures { λ r. ⌜ r ≡ (if isOff state then 0 else 2 ^ 12) ⌝ }
 {
     if is_off(state) {
         return 0;
@@ -98,7 +139,7 @@ fn control_value(state: State) -> u16
 
 // A bit's value, or 0.
 fn bit_if(test: bool, value: u16) -> u16
-    ensures exactly { λ r. ⌜ r ≡ cond test value 0 ⌝ }
+    ensures exactly { λ r. ⌜ r ≡ (if test then value else 0) ⌝ }
     ensures small { λ r. ⌜ r ≤ value ⌝ }
 {
     if test {
@@ -123,12 +164,7 @@ fn after_status(device: Device) -> Device
     ensures { λ r. ⌜ r ≡ statusRead device ⌝ }
 {
     let state = device.state;
-    let up = is_up(state);
-    let mut after = device;
-    after.flags.received = false;
-    after.flags.fault = false;
-    after.talk.latch = up;
-    after
+    with_flags(with_latch(device, is_up(state)), false, false)
 }
 
 // A read of 513.
@@ -137,10 +173,10 @@ fn read_status(device: Device) -> Reply
 {
     let state = device.state;
     let value = status_value(
-        device.flags.received,
+        device.lasting.flags.received,
         is_up(state),
-        device.flags.fault,
-        device.talk.latch,
+        device.lasting.flags.fault,
+        device.link.talk.latch,
     );
     answered(Answer::Value(value), after_status(device))
 }
@@ -153,22 +189,30 @@ pub fn read(device: Device, register: u64) -> Reply
     match register_of(register) {
         Register::Control => answered(Answer::Value(control_value(state)), device),
         Register::Status => read_status(device),
-        Register::AdvertisedLow => answered(Answer::Value(device.advertised.low), device),
-        Register::AdvertisedMiddle => answered(Answer::Value(device.advertised.middle), device),
-        Register::AdvertisedHigh => answered(Answer::Value(device.advertised.high), device),
-        Register::PartnerLow => answered(Answer::Value(device.partner.low), device),
-        Register::PartnerMiddle => answered(Answer::Value(device.partner.middle), device),
-        Register::PartnerHigh => answered(Answer::Value(device.partner.high), device),
+        Register::Part { bank, third } => answered(
+            Answer::Value(third_of(bank_of(device, bank), third)),
+            device,
+        ),
         Register::Missing => answered(Answer::Refused(Refusal::Register), device),
     }
 }
 
-// Bit n of a value written to 512.
+// Whether a value written to 512 has the bit of this weight.
 fn has_bit(value: u16, weight: u16) -> bool
     requires { ⌜ 1 ≤ weight ⌝ }
-    ensures { λ r. ⌜ r ≡ eqb (value / weight % 2) 1 ⌝ }
+    ensures { λ r. ⌜ r ≡ (value / weight % 2 =? 1) ⌝ }
 {
     value / weight % 2 == 1
+}
+
+// Whether a device that is enabled goes into Break.
+fn restarts(value: u16, state: State) -> bool
+    ensures { λ r. ⌜ r ≡ restartsBy value state ⌝ }
+{
+    if has_bit(value, 512) {
+        return true;
+    }
+    is_off(state)
 }
 
 // The device after a write to 512.
@@ -179,11 +223,8 @@ fn command(device: Device, value: u16, reading: u32) -> Device
         return Device::fresh();
     }
     if has_bit(value, 4096) {
-        if has_bit(value, 512) {
-            return enter_break(device, reading);
-        }
         let state = device.state;
-        if is_off(state) {
+        if restarts(value, state) {
             return enter_break(device, reading);
         }
         return device;
@@ -191,29 +232,18 @@ fn command(device: Device, value: u16, reading: u32) -> Device
     enter_off(device)
 }
 
-// The device with one of 514-516 written.
-fn write_low(device: Device, value: u16) -> Device
-    ensures { λ r. ⌜ r ≡ withAdvertised (lowWritten value (device .advertised)) device ⌝ }
+// The device with one register of a bank written, if that may be.
+fn write_bank(device: Device, bank: Bank, third: Third, value: u16) -> Device
+    ensures { λ r. ⌜ r ≡ bankWritten bank third value device ⌝ }
 {
-    let mut after = device;
-    after.advertised.low = value;
-    after
-}
-
-fn write_middle(device: Device, value: u16) -> Device
-    ensures { λ r. ⌜ r ≡ withAdvertised (middleWritten value (device .advertised)) device ⌝ }
-{
-    let mut after = device;
-    after.advertised.middle = value;
-    after
-}
-
-fn write_high(device: Device, value: u16) -> Device
-    ensures { λ r. ⌜ r ≡ withAdvertised (highWritten value (device .advertised)) device ⌝ }
-{
-    let mut after = device;
-    after.advertised.high = value;
-    after
+    match bank {
+        Bank::Advertised => {
+            let lasting = device.lasting;
+            let advertised = lasting.advertised;
+            with_advertised(device, with_third(advertised, third, value))
+        }
+        Bank::Partner => device,
+    }
 }
 
 // Writes a register at a clock reading.
@@ -223,12 +253,9 @@ pub fn write(device: Device, register: u64, value: u16, reading: u32) -> Reply
     match register_of(register) {
         Register::Control => answered(Answer::Nothing, command(device, value, reading)),
         Register::Status => answered(Answer::Nothing, device),
-        Register::AdvertisedLow => answered(Answer::Nothing, write_low(device, value)),
-        Register::AdvertisedMiddle => answered(Answer::Nothing, write_middle(device, value)),
-        Register::AdvertisedHigh => answered(Answer::Nothing, write_high(device, value)),
-        Register::PartnerLow => answered(Answer::Nothing, device),
-        Register::PartnerMiddle => answered(Answer::Nothing, device),
-        Register::PartnerHigh => answered(Answer::Nothing, device),
+        Register::Part { bank, third } => {
+            answered(Answer::Nothing, write_bank(device, bank, third, value))
+        }
         Register::Missing => answered(Answer::Refused(Refusal::Register), device),
     }
 }

@@ -1,29 +1,84 @@
--- What of a link's memory an event changes: one thing each, all else stays.
+-- The device with one thing changed; all else stays. A field of the record is spelled here and where a link is forgotten (Memory), and in no other definition.
 use Prim.Native.Nat.{ℕ}
 use mathlib.Core.Bool.{Bool}
+use Rattle.line_reader.specs.declared.reader.Reader.{Reader}
+use Rattle.port_state.specs.declared.State.{State}
+use Rattle.port_state.specs.declared.page_registers.PageRegisters.{PageRegisters}
+use Rattle.port_state.specs.declared.Lasting.{Lasting}
 use Rattle.port_state.specs.declared.Talk.{Talk}
+use Rattle.port_state.specs.declared.Outcome.{Outcome}
+use Rattle.port_state.specs.declared.Link.{Link}
+use Rattle.port_state.specs.declared.Device.{Device}
 
--- "There is one mark, the last set": whether it is "heard" (else "waiting"), and its reading.
-abbrev pub marking : Bool → ℕ → Talk → Talk
-marking heard reading t =
-    record { own = t .own; held = t .held; out = t .out; count = t .count; heard = heard; mark = reading; timer = t .timer; latch = t .latch }
+-- Its three parts.
+abbrev pub withLasting : Lasting → Device → Device
+withLasting lasting d = record { lasting = lasting; state = d .state; link = d .link }
 
-abbrev pub owning : ℕ → Talk → Talk
-owning own t =
-    record { own = own; held = t .held; out = t .out; count = t .count; heard = t .heard; mark = t .mark; timer = t .timer; latch = t .latch }
+abbrev pub withState : State → Device → Device
+withState state d = record { lasting = d .lasting; state = state; link = d .link }
 
-abbrev pub holding : ℕ → Talk → Talk
-holding held t =
-    record { own = t .own; held = held; out = t .out; count = t .count; heard = t .heard; mark = t .mark; timer = t .timer; latch = t .latch }
+abbrev pub withLink : Link → Device → Device
+withLink link d = record { lasting = d .lasting; state = d .state; link = link }
 
-abbrev pub sending : Bool → Talk → Talk
-sending out t =
-    record { own = t .own; held = t .held; out = out; count = t .count; heard = t .heard; mark = t .mark; timer = t .timer; latch = t .latch }
+-- What outlives a link: 7.514-7.516; Page received and Remote fault.
+abbrev pub withAdvertised : PageRegisters → Device → Device
+withAdvertised advertised d = withLasting (record { advertised = advertised; flags = d .lasting .flags }) d
 
-abbrev pub counting : ℕ → Talk → Talk
-counting count t =
-    record { own = t .own; held = t .held; out = t .out; count = count; heard = t .heard; mark = t .mark; timer = t .timer; latch = t .latch }
+abbrev pub withFlags : (received fault : Bool) → Device → Device
+withFlags received fault d =
+    withLasting (record { advertised = d .lasting .advertised; flags = record { received = received; fault = fault } }) d
 
-abbrev pub timing : ℕ → Talk → Talk
-timing timer t =
-    record { own = t .own; held = t .held; out = t .out; count = t .count; heard = t .heard; mark = t .mark; timer = timer; latch = t .latch }
+-- What belongs to the link: 7.517-7.519, what is said and heard, the outcome, the reader.
+abbrev pub withPartner : PageRegisters → Device → Device
+withPartner partner d =
+    withLink (record { partner = partner; talk = d .link .talk; outcome = d .link .outcome; reader = d .link .reader }) d
+
+abbrev pub withTalk : Talk → Device → Device
+withTalk talk d =
+    withLink (record { partner = d .link .partner; talk = talk; outcome = d .link .outcome; reader = d .link .reader }) d
+
+abbrev pub withOutcome : Outcome → Device → Device
+withOutcome outcome d =
+    withLink (record { partner = d .link .partner; talk = d .link .talk; outcome = outcome; reader = d .link .reader }) d
+
+abbrev pub withReader : Reader → Device → Device
+withReader reader d =
+    withLink (record { partner = d .link .partner; talk = d .link .talk; outcome = d .link .outcome; reader = reader }) d
+
+-- Of what is said and heard: the own page, the held page, whether a page is out, the count,
+abbrev pub withOwn : (own : ℕ) → Device → Device
+withOwn own d =
+    let t = d .link .talk in
+    withTalk (record { own = own; held = t .held; count = t .count; mark = t .mark; timer = t .timer; out = t .out; heard = t .heard; latch = t .latch }) d
+
+abbrev pub withHeld : (held : ℕ) → Device → Device
+withHeld held d =
+    let t = d .link .talk in
+    withTalk (record { own = t .own; held = held; count = t .count; mark = t .mark; timer = t .timer; out = t .out; heard = t .heard; latch = t .latch }) d
+
+abbrev pub withOut : (out : Bool) → Device → Device
+withOut out d =
+    let t = d .link .talk in
+    withTalk (record { own = t .own; held = t .held; count = t .count; mark = t .mark; timer = t .timer; out = out; heard = t .heard; latch = t .latch }) d
+
+abbrev pub withCount : (count : ℕ) → Device → Device
+withCount count d =
+    let t = d .link .talk in
+    withTalk (record { own = t .own; held = t .held; count = count; mark = t .mark; timer = t .timer; out = t .out; heard = t .heard; latch = t .latch }) d
+
+-- "There is one mark, the last set": whether it is "heard" (else "waiting"), and its reading;
+abbrev pub withMark : (heard : Bool) (reading : ℕ) → Device → Device
+withMark heard reading d =
+    let t = d .link .talk in
+    withTalk (record { own = t .own; held = t .held; count = t .count; mark = reading; timer = t .timer; out = t .out; heard = heard; latch = t .latch }) d
+
+-- the reading at which the state's timer started, the link latch.
+abbrev pub withTimer : (reading : ℕ) → Device → Device
+withTimer reading d =
+    let t = d .link .talk in
+    withTalk (record { own = t .own; held = t .held; count = t .count; mark = t .mark; timer = reading; out = t .out; heard = t .heard; latch = t .latch }) d
+
+abbrev pub withLatch : (latch : Bool) → Device → Device
+withLatch latch d =
+    let t = d .link .talk in
+    withTalk (record { own = t .own; held = t .held; count = t .count; mark = t .mark; timer = t .timer; out = t .out; heard = t .heard; latch = latch }) d

@@ -1,2 +1,3 @@
+pub mod PageRegisters
 pub mod Memory
 pub mod Changes

@@ -1,9 +1,34 @@
 // What a device remembers, and what is left of it where it goes into Break or Off.
 ghost use mathlib.Core.Path.{_≡_};
 ghost use Rattle.answers.specs.Answers.{said};
-ghost use Rattle.port_state.specs.Memory.{Meets, due, noPage, noTalk, withoutLink, freshDevice, intoBreak, intoOff};
+ghost use Rattle.port_state.specs.Memory.{Meets, due, noTalk, noLink, withoutLink, freshDevice, intoBreak, intoOff};
+
+mod changes;
+mod page_registers;
+
 use answers::Answer;
+pub use changes::with_advertised;
+pub use changes::with_count;
+pub use changes::with_flags;
+pub use changes::with_held;
+pub use changes::with_latch;
+pub use changes::with_mark;
+pub use changes::with_out;
+pub use changes::with_outcome;
+pub use changes::with_own;
+pub use changes::with_partner;
+pub use changes::with_reader;
+pub use changes::with_state;
+pub use changes::with_timer;
 use line_reader::Reader;
+pub use page_registers::PageRegisters;
+pub use page_registers::Third;
+use page_registers::no_page;
+pub use page_registers::registers_of;
+pub use page_registers::third_of;
+pub use page_registers::with_third;
+pub use page_registers::word_of;
+use page_resolve::Resolution;
 
 // The states of the negotiation.
 pub enum State {
@@ -16,21 +41,20 @@ pub enum State {
     Up,
 }
 
-// A page's 48 bits as three registers: D15-0, D31-16, D47-32.
-pub struct PageRegisters {
-    pub low: u16,
-    pub middle: u16,
-    pub high: u16,
-}
-
 // The two bits of 7.513 that outlive a link: Page received and Remote fault.
 pub struct Flags {
     pub received: bool,
     pub fault: bool,
 }
 
-// What belongs to one link: the own page, the held page, whether a page is out, how many were sent in Complete; the mark, whether it is
-// "heard" or "waiting", and its reading; the reading at which the state's timer started; the link latch of 7.513.
+// What outlives a link: 7.514-516, and these two bits.
+pub struct Lasting {
+    pub advertised: PageRegisters,
+    pub flags: Flags,
+}
+
+// What is said and heard on one link: the own page, the held page, whether a page is out, how many were sent in Complete; the mark, whether
+// it is "heard" or "waiting", and its reading; the reading at which the state's timer started; the link latch of 7.513.
 pub struct Talk {
     pub own: u64,
     pub held: u64,
@@ -42,16 +66,25 @@ pub struct Talk {
     pub latch: bool,
 }
 
-// A device: its state; 7.514-516; 7.517-519; the bits that outlive a link; what belongs to the link; the outcome, nothing until
-// there is one; the reader.
-pub struct Device {
-    pub state: State,
-    pub advertised: PageRegisters,
+// What resolving came to, if it was asked.
+pub enum Outcome {
+    NoneYet,
+    Resolved(Resolution),
+}
+
+// What belongs to one link: 7.517-519, what is said and heard, the outcome, the reader.
+pub struct Link {
     pub partner: PageRegisters,
-    pub flags: Flags,
     pub talk: Talk,
-    pub outcome: Answer,
+    pub outcome: Outcome,
     pub reader: Reader,
+}
+
+// A device: what outlives a link, the state, and what belongs to the link.
+pub struct Device {
+    pub lasting: Lasting,
+    pub state: State,
+    pub link: Link,
 }
 
 // What an event brings.
@@ -70,45 +103,42 @@ pub fn answered(answer: Answer, device: Device) -> Reply
     }
 }
 
-// All zero.
-fn no_page() -> PageRegisters
-    ensures { λ r. ⌜ r ≡ noPage ⌝ }
-{
-    PageRegisters {
-        low: 0,
-        middle: 0,
-        high: 0,
-    }
-}
-
-// Nothing of any link, every time at one reading.
+// Nothing said and nothing heard, every time at one reading.
 fn no_talk(reading: u32) -> Talk
     ensures { λ r. ⌜ r ≡ noTalk reading ⌝ }
 {
     Talk {
         own: 0,
         held: 0,
-        out: false,
         count: 0,
-        heard: false,
         mark: reading,
         timer: reading,
+        out: false,
+        heard: false,
         latch: false,
     }
 }
 
-// A device that knows no link, in a state and with what outlives links. Everything of a link is made anew here, so nothing can be left over.
-fn without_link(state: State, advertised: PageRegisters, flags: Flags, reading: u32) -> Device
-    ensures { λ r. ⌜ r ≡ withoutLink state advertised flags reading ⌝ }
+// Nothing of any link. All that a device forgets is forgotten by putting this in its place, so nothing can be left over.
+fn no_link(reading: u32) -> Link
+    ensures { λ r. ⌜ r ≡ noLink reading ⌝ }
+{
+    Link {
+        partner: no_page(),
+        talk: no_talk(reading),
+        outcome: Outcome::NoneYet,
+        reader: Reader::Fresh,
+    }
+}
+
+// A device that knows no link, in a state and with what outlives links.
+fn without_link(lasting: Lasting, state: State, reading: u32) -> Device
+    ensures { λ r. ⌜ r ≡ withoutLink lasting state reading ⌝ }
 {
     Device {
+        lasting: lasting,
         state: state,
-        advertised: advertised,
-        partner: no_page(),
-        flags: flags,
-        talk: no_talk(reading),
-        outcome: Answer::Nothing,
-        reader: Reader::Fresh,
+        link: no_link(reading),
     }
 }
 
@@ -121,7 +151,11 @@ impl Device {
             received: false,
             fault: false,
         };
-        without_link(State::Off, no_page(), flags, 0)
+        let unwritten = Lasting {
+            advertised: no_page(),
+            flags: flags,
+        };
+        without_link(unwritten, State::Off, 0)
     }
 }
 
@@ -129,16 +163,14 @@ impl Device {
 pub fn enter_break(device: Device, reading: u32) -> Device
     ensures { λ r. ⌜ r ≡ intoBreak reading device ⌝ }
 {
-    let advertised = device.advertised;
-    let flags = device.flags;
-    without_link(State::Break, advertised, flags, reading)
+    let lasting = device.lasting;
+    without_link(lasting, State::Break, reading)
 }
 
 // The device in Off: the link is forgotten, and no timer starts.
 pub fn enter_off(device: Device) -> Device
     ensures { λ r. ⌜ r ≡ intoOff device ⌝ }
 {
-    let advertised = device.advertised;
-    let flags = device.flags;
-    without_link(State::Off, advertised, flags, 0)
+    let lasting = device.lasting;
+    without_link(lasting, State::Off, 0)
 }

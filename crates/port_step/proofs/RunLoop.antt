@@ -1,6 +1,5 @@
 -- The loop of a run: after each event its answer stands at the head of the list, and the device is the one after these events.
 use mathlib.Core.Path.{_≡_, refl, sym, ap, ap₂, _∙_, subst}
-use mathlib.Core.Bool.{Bool, cond}
 use borrow.Author.Tests.{le-leb, lt-leb}
 use mathlib.Core.List.{List, [], _∷_, _++_, map, append-assoc, append-nil}
 use Prim.Native.Nat.{ℕ, suc, _+_, _*_, _/_, _<_, _≤_}
@@ -8,14 +7,14 @@ use native.Mathlib.Numerals.{add-one}
 use native.Mathlib.Omega.{arith}
 use lib.ListN.{length, getD, drop, set, length-append, length-drop}
 use lib.Seq.{drop-cons, set-at}
-use Rattle.answers.specs.Answers.{said, packed, number, refused}
+use Rattle.answers.specs.Answers.{said, packed, number, leaving, kept}
 use Rattle.answers.specs.declared.Refusal.the-variants.{Room}
 use Rattle.port_state.specs.declared.Device.{Device}
 use Rattle.port_state.specs.declared.Reply.{Reply}
 use Rattle.port_state.specs.Memory.{Meets, freshDevice}
 use Rattle.port_step.specs.declared.events.Event.{Event}
 use Rattle.port_step.specs.Steps.{stepDue, saysTo}
-use Rattle.port_step.specs.Runs.{eventOf, eventsOf, answersTo, runSays, runLeaves}
+use Rattle.port_step.specs.Runs.{eventOf, eventsOf, answersTo, runOf}
 
 -- There are a third as many events as cells.
 pub count-events : (cells : List ℕ) → length (eventsOf cells) ≡ length cells / 3
@@ -138,24 +137,18 @@ finish cells before list device taken place g h =
     all-done = g .whole ∙ ap (λ (events : List Event). g .done ++ map packed (saysTo device events)) none-left ∙ append-nil (g .done)
 
 -- Without room the call refuses and the list is kept;
-pub too-few : (cells list : List ℕ) → length list < length cells / 3 → (refused Room ≡ runSays cells list) × (list ≡ runLeaves cells list)
-unfolding runSays runLeaves
-too-few cells list h =
-    let n = lt-leb (length (eventsOf cells)) (length list) (subst (λ (k : ℕ). length list < k) (sym (count-events cells)) h) in (
-      sym (ap (λ (t : Bool). cond t (number (length (eventsOf cells))) (refused Room)) n),
-      sym (ap (λ (t : Bool). cond t (answersTo cells ++ drop (length (eventsOf cells)) list) list) n),
-    )
+pub too-few : (cells list : List ℕ) → length list < length cells / 3 → runOf cells list ≡ kept Room list
+unfolding runOf
+too-few cells list h = rw (lt-leb (length (eventsOf cells)) (length list) (subst (λ (k : ℕ). length list < k) (sym (count-events cells)) h))
 
 -- and with room
 pub has-room : (cells list : List ℕ) → length cells / 3 ≤ length list → length (eventsOf cells) ≤ length list
 has-room cells list h = let n = count-events cells in omega arith
 
 -- the answers stand in it.
-pub all-answered : (cells list after : List ℕ) → length cells / 3 ≤ length list → after ≡ answersTo cells ++ drop (length (eventsOf cells)) list
-    → (number (length cells / 3) ≡ runSays cells list) × (after ≡ runLeaves cells list)
-unfolding runSays runLeaves
-all-answered cells list after h answered =
-    let n = le-leb (length (eventsOf cells)) (length list) (has-room cells list h) in (
-      ap number (sym (count-events cells)) ∙ sym (ap (λ (t : Bool). cond t (number (length (eventsOf cells))) (refused Room)) n),
-      answered ∙ sym (ap (λ (t : Bool). cond t (answersTo cells ++ drop (length (eventsOf cells)) list) list) n),
-    )
+pub all-answered : (cells list : List ℕ) → length cells / 3 ≤ length list
+    → runOf cells list ≡ leaving (number (length cells / 3)) (answersTo cells ++ drop (length (eventsOf cells)) list)
+unfolding runOf
+all-answered cells list h =
+    rw (le-leb (length (eventsOf cells)) (length list) (has-room cells list h))
+    (ap (λ (n : ℕ). leaving (number n) (answersTo cells ++ drop (length (eventsOf cells)) list)) (count-events cells))

@@ -18,7 +18,7 @@ use Rattle.port_step.specs.declared.events.Event.the-variants.{Edge, Tic
 
 -- One step: what an event has to bring, over a profile's numbers and an ordered list of abilities. (The inhibit numbers are no part of a
 -- profile.) "What is not named answers nothing and alters nothing."
-unfoldable pub stepOver : Profile → List ℕ → Event → Device → Due
+unfoldable pub stepOver : Profile → (order : List ℕ) → Event → Device → Due
 stepOver p order (Edge reading) d = edgeDue (p .mode) reading d
 stepOver p order (Tick reading draw) d = tickDue p reading draw d
 stepOver p order (Sent reading) d = sentDue order reading d

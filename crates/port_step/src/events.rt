@@ -4,6 +4,7 @@ ghost use Rattle.port_step.specs.Steps.{stepDue};
 use answers::Answer;
 use port_state::Device;
 use port_state::Reply;
+use port_state::answered;
 
 // An event with its clock reading. The last is a number that names no event.
 pub enum Event {
@@ -48,9 +49,6 @@ pub fn step(device: Device, event: Event) -> Reply
             register,
             value,
         } => port_registers::write(device, register, value, reading),
-        Event::Unnamed => Reply {
-            answer: Answer::Nothing,
-            device: device,
-        },
+        Event::Unnamed => answered(Answer::Nothing, device),
     }
 }

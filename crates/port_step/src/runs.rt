@@ -1,10 +1,10 @@
 // A run of events as numbers, from a fresh device.
 ghost use mathlib.Core.Path.{_≡_};
 ghost use mathlib.Core.List.{_++_};
-ghost use Prim.Native.Nat.{_≤_};
-ghost use lib.ListN.{length, drop};
+ghost use Prim.Native.Nat.{_+_, _≤_};
+ghost use lib.ListN.{length, getD, drop};
 ghost use Rattle.answers.specs.Answers.{said};
-ghost use Rattle.port_step.specs.Runs.{eventOf, eventsOf, answersTo, runSays, runLeaves};
+ghost use Rattle.port_step.specs.Runs.{eventOf, eventsOf, answersTo, runOf};
 use crate::events::Event;
 use crate::events::step;
 use answers::Answer;
@@ -50,6 +50,14 @@ fn event_of(kind: u64, clock: u64, argument: u64) -> Event
     Event::Unnamed
 }
 
+// The event whose three numbers stand from a place on.
+fn event_at(events: &[u64], place: usize) -> Event
+    requires { ⌜ place + 3 ≤ length (now events) ⌝ }
+    ensures { λ r. ⌜ r ≡ eventOf (getD (now (events .entry)) place 0) (getD (now (events .entry)) (place + 1) 0) (getD (now (events .entry)) (place + 2) 0) ⌝ }
+{
+    event_of(events[place], events[place + 1], events[place + 2])
+}
+
 // Puts the answers at the head of a list that has room for them.
 fn answer_all(events: &[u64], answers: &mut [u64])
     requires { ⌜ length (eventsOf (now events)) ≤ length (now answers) ⌝ }
@@ -60,8 +68,7 @@ fn answer_all(events: &[u64], answers: &mut [u64])
     let mut taken: usize = 0;
     let mut place: usize = 0;
     while taken < count {
-        let event = event_of(events[place], events[place + 1], events[place + 2]);
-        let reply = step(device, event);
+        let reply = step(device, event_at(events, place));
         let answer = reply.answer;
         answers[taken] = answer.packed();
         device = reply.device;
@@ -72,8 +79,8 @@ fn answer_all(events: &[u64], answers: &mut [u64])
 
 // Takes events from a fresh device and answers each.
 pub fn run(events: &[u64], answers: &mut [u64]) -> Answer
-    ensures says { λ r. ⌜ said r ≡ runSays (now (events .entry)) (now (answers .entry)) ⌝ }
-    ensures leaves { λ _. ⌜ now (answers .exit) ≡ runLeaves (now (events .entry)) (now (answers .entry)) ⌝ }
+    ensures says { λ r. ⌜ said r ≡ runOf (now (events .entry)) (now (answers .entry)) .says ⌝ }
+    ensures leaves { λ _. ⌜ now (answers .exit) ≡ runOf (now (events .entry)) (now (answers .entry)) .list ⌝ }
 {
     let count = events.len() / 3;
     if answers.len() < count {

@@ -1,1 +1,1 @@
-pub mod OutcomeLaws
+pub mod AtThree

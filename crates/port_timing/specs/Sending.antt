@@ -1,39 +1,40 @@
 -- 01, "The negotiation (LSM)": the event "page sent".
 use Prim.Native.Nat.{ℕ, _+_}
-use mathlib.Core.Bool.{false, cond}
+use mathlib.Core.Bool.{false}
 use mathlib.Core.List.{List}
-use lib.Dec.{leb}
-use Rattle.answers.specs.Answers.{said, nothing, refused}
 use Rattle.answers.specs.declared.Refusal.the-variants.{Turn}
-use Rattle.page_resolve.specs.Resolving.{resolutionOf}
+use Rattle.answers.specs.Choices.{if_then_else_, _≤?_}
+use Rattle.answers.specs.Answers.{nothing, refused}
+use Rattle.page_resolve.specs.Resolving.{resolutionOf, saidOf}
 use Rattle.port_state.specs.declared.State.{State}
 use Rattle.port_state.specs.declared.State.the-variants.{Off, Break, Ability, Ack, Complete, CheckLink, Up}
+use Rattle.port_state.specs.declared.Outcome.the-variants.{Resolved}
 use Rattle.port_state.specs.declared.Device.{Device}
-use Rattle.port_state.specs.Memory.{Due, due, withState, withTalk, withOutcome}
-use Rattle.port_state.specs.Changes.{marking, sending, counting, timing}
+use Rattle.port_state.specs.Memory.{Due, due}
+use Rattle.port_state.specs.Changes.{withState, withOutcome, withOut, withCount, withMark, withTimer}
 
 -- "Sent ends it and marks waiting."
-abbrev pub ended : ℕ → Device → Device
-ended reading d = withTalk (marking false reading (sending false (d .talk))) d
+abbrev pub ended : (reading : ℕ) → Device → Device
+ended reading d = withMark false reading (withOut false d)
 
 -- "at three, resolve own and held page, answer and keep the outcome, go to Check-link, starting the inhibit timer"
-abbrev pub resolved : List ℕ → ℕ → Device → Due
+abbrev pub resolved : (order : List ℕ) (reading : ℕ) → Device → Due
 resolved order reading d =
-    let outcome = resolutionOf order (d .talk .own) (d .talk .held) in
-    due (said outcome) (withState CheckLink (withOutcome outcome (withTalk (timing reading (counting 3 (d .talk))) d)))
+    let resolution = resolutionOf order (d .link .talk .own) (d .link .talk .held) in
+    due (saidOf resolution) (withState CheckLink (withOutcome (Resolved resolution) (withTimer reading (withCount 3 d))))
 
--- "Each page sent adds one": the count before this page is looked at, so two or more are "at three" with it. A count of three or more, on a record that no call
--- has made, is at three as well, and 3 is what is left of it.
-unfoldable pub counted : List ℕ → ℕ → Device → Due
+-- "Each page sent adds one; at three, resolve". A count of three or more before, on a record that no call has made, is at three as well, and 3 is what is left of it.
+unfoldable pub counted : (order : List ℕ) (reading : ℕ) → Device → Due
 counted order reading d =
-    cond (leb 2 (d .talk .count)) (resolved order reading d) (due nothing (withTalk (counting (d .talk .count + 1) (d .talk)) d))
+    let count = d .link .talk .count + 1 in
+    if 3 ≤? count then resolved order reading d else due nothing (withCount count d)
 
 -- Row 11 of the refusals, Turn: "or with no page out; kept".
 abbrev pub ifOut : Device → Due → Due
-ifOut d next = cond (d .talk .out) next (due (refused Turn) d)
+ifOut d next = if d .link .talk .out then next else due (refused Turn) d
 
 -- By state. Turn: "sent in Off or Break". In Check-link and Up a page is out only on a record that no call has made; "Sent ends it" there too.
-abbrev pub sentIn : State → List ℕ → ℕ → Device → Due
+abbrev pub sentIn : State → (order : List ℕ) (reading : ℕ) → Device → Due
 sentIn Off order reading d = due (refused Turn) d
 sentIn Break order reading d = due (refused Turn) d
 sentIn Ability order reading d = ifOut d (due nothing (ended reading d))
@@ -42,5 +43,5 @@ sentIn Complete order reading d = ifOut d (counted order reading (ended reading 
 sentIn CheckLink order reading d = ifOut d (due nothing (ended reading d))
 sentIn Up order reading d = ifOut d (due nothing (ended reading d))
 
-unfoldable pub sentDue : List ℕ → ℕ → Device → Due
+unfoldable pub sentDue : (order : List ℕ) (reading : ℕ) → Device → Due
 sentDue order reading d = sentIn (d .state) order reading d

@@ -1,21 +1,9 @@
 // The pages that a device makes.
 ghost use mathlib.Core.Path.{_≡_};
-ghost use Rattle.port_state.specs.Memory.{wordOf};
 ghost use Rattle.port_timing.specs.OwnPages.{nonceFor, ownPage, echoingPage};
 use page_word::Field;
 use page_word::get;
 use page_word::set;
-use port_state::PageRegisters;
-
-// Three registers as a word.
-pub(crate) fn word_of(registers: PageRegisters) -> u64
-    ensures { λ r. ⌜ r ≡ wordOf registers ⌝ }
-{
-    let low = registers.low as u64;
-    let middle = registers.middle as u64;
-    let high = registers.high as u64;
-    low + (middle * 65536 + high * 4294967296)
-}
 
 // The nonce of the own page. Where the role is forced, T4 says which, and is not drawn.
 fn nonce_for(advertised: u64, draw: u64) -> u64

@@ -1,11 +1,10 @@
 // The numbers of the timers, and when one has run out.
 ghost use mathlib.Core.Path.{_≡_};
-ghost use Rattle.answers.specs.Answers.{said, packed};
-ghost use Rattle.port_timing.specs.Timers.{runOut, lowSpeed, inhibitFor, inhibitOf, inhibitAt};
-use answers::Answer;
-use answers::KIND;
+ghost use Rattle.port_timing.specs.Timers.{runOut, lowSpeed, inhibitFor, inhibitOf};
 use line_mode::LineMode;
 use line_mode::time_between;
+use page_resolve::Resolution;
+use port_state::Outcome;
 
 // The line mode's numbers, and those of the break timer, silent and wait, in ns.
 pub struct Profile {
@@ -53,41 +52,15 @@ fn inhibit_for(ability: u8) -> u32
     INHIBIT
 }
 
-// The kind of an answer that has rate and role.
-const SETTLED: u64 = 130;
-
-// The inhibit timer's number for an outcome that is given as one number.
-fn inhibit_at(number: u64) -> u32
-    ensures { λ r. ⌜ r ≡ inhibitAt number ⌝ }
-{
-    if number / KIND != SETTLED {
-        return INHIBIT;
-    }
-    inhibit_for((number % 256) as u8)
-}
-
-// Nothing is done here: going through the cases shows that an ability is a byte, so that the number tells the rate.
-fn number_tells(outcome: Answer) -> bool
-    ensures { λ _. ⌜ inhibitAt (packed (said outcome)) ≡ inhibitOf outcome ⌝ }
-{
-    match outcome {
-        Answer::Settled { ability, master } => true,
-        Answer::Nothing => true,
-        Answer::Refused(refusal) => true,
-        Answer::Page(word) => true,
-        Answer::Order(word) => true,
-        Answer::Value(value) => true,
-        Answer::Number(number) => true,
-        Answer::Quiet => true,
-        Answer::Unfit => true,
-    }
-}
-
-// The inhibit timer's number for an outcome. It goes by the outcome's number, which is made of all its fields: of a match, which looks at two
-// of them, the compiler makes copies of the others as bytes at every event (bench/README.md).
-pub(crate) fn inhibit_of(outcome: Answer) -> u32
+// The inhibit timer's number for an outcome.
+pub(crate) fn inhibit_of(outcome: Outcome) -> u32
     ensures { λ r. ⌜ r ≡ inhibitOf outcome ⌝ }
 {
-    number_tells(outcome);
-    inhibit_at(outcome.packed())
+    match outcome {
+        Outcome::NoneYet => INHIBIT,
+        Outcome::Resolved(resolution) => match resolution {
+            Resolution::Refused(refusal) => INHIBIT,
+            Resolution::Settled { ability, master } => inhibit_for(ability),
+        },
+    }
 }

@@ -1,61 +1,40 @@
 // A link report.
 ghost use mathlib.Core.Path.{_≡_};
 ghost use Rattle.port_state.specs.declared.State.the-variants.{Up, CheckLink};
-ghost use Rattle.port_state.specs.Memory.{Meets, withState};
+ghost use Rattle.port_state.specs.Memory.{Meets};
 ghost use Rattle.port_timing.specs.Reports.{hasRate, reportIn, reportDue};
 use answers::Answer;
+use page_resolve::Resolution;
 use port_state::Device;
+use port_state::Outcome;
 use port_state::Reply;
 use port_state::State;
 use port_state::answered;
 use port_state::enter_break;
-
-// The link is up. The latch of 7.513 stays as it was: only a read sets it.
-fn come_up(device: Device) -> Device
-    ensures { λ r. ⌜ r ≡ withState Up device ⌝ }
-{
-    let advertised = device.advertised;
-    let partner = device.partner;
-    let flags = device.flags;
-    let talk = device.talk;
-    let outcome = device.outcome;
-    let reader = device.reader;
-    Device {
-        state: State::Up,
-        advertised: advertised,
-        partner: partner,
-        flags: flags,
-        talk: talk,
-        outcome: outcome,
-        reader: reader,
-    }
-}
+use port_state::with_state;
 
 // Whether an outcome has a rate.
-fn has_rate(outcome: Answer) -> bool
+fn has_rate(outcome: Outcome) -> bool
     ensures { λ r. ⌜ r ≡ hasRate outcome ⌝ }
 {
     match outcome {
-        Answer::Settled { ability, master } => true,
-        Answer::Nothing => false,
-        Answer::Refused(refusal) => false,
-        Answer::Page(word) => false,
-        Answer::Order(word) => false,
-        Answer::Value(value) => false,
-        Answer::Number(number) => false,
-        Answer::Quiet => false,
-        Answer::Unfit => false,
+        Outcome::NoneYet => false,
+        Outcome::Resolved(resolution) => match resolution {
+            Resolution::Refused(refusal) => false,
+            Resolution::Settled { ability, master } => true,
+        },
     }
 }
 
-// A report in Check-link.
+// A report in Check-link. The latch of 7.513 stays as it was: only a read sets it.
 fn report_in_check_link(device: Device, up: bool, reading: u32) -> Device
     ensures { λ r. ⌜ r ≡ reportIn CheckLink up reading device ⌝ }
 {
-    let outcome = device.outcome;
+    let link = device.link;
+    let outcome = link.outcome;
     if up {
         if has_rate(outcome) {
-            return come_up(device);
+            return with_state(device, State::Up);
         }
         return device;
     }

@@ -1,70 +1,58 @@
 // A page has been sent.
 ghost use mathlib.Core.Path.{_≡_};
+ghost use Rattle.answers.specs.Answers.{nothing};
 ghost use Rattle.page_resolve.specs.Rates.{rateOrder};
 ghost use Rattle.port_state.specs.Memory.{Meets, due};
-ghost use Rattle.answers.specs.Answers.{nothing};
 ghost use Rattle.port_timing.specs.Sending.{ended, resolved, counted, ifOut, sentDue};
 use answers::Answer;
 use answers::Refusal;
 use page_resolve::resolve;
 use port_state::Device;
+use port_state::Outcome;
 use port_state::Reply;
 use port_state::State;
 use port_state::answered;
+use port_state::with_count;
+use port_state::with_mark;
+use port_state::with_out;
+use port_state::with_outcome;
+use port_state::with_state;
+use port_state::with_timer;
 
 // The page is no longer out, and the mark is "waiting", now.
 fn end(device: Device, reading: u32) -> Device
     ensures { λ r. ⌜ r ≡ ended reading device ⌝ }
 {
-    let mut after = device;
-    after.talk.out = false;
-    after.talk.heard = false;
-    after.talk.mark = reading;
-    after
+    with_mark(with_out(device, false), false, reading)
 }
 
 // The third page: rate and role are resolved, or refused, and the device goes to Check-link.
 fn settle(device: Device, reading: u32) -> Reply
     ensures { λ r. ⌜ Meets r (resolved rateOrder reading device) ⌝ }
 {
-    let outcome = resolve(device.talk.own, device.talk.held);
-    let mut talk = device.talk;
-    talk.count = 3;
-    talk.timer = reading;
-    let advertised = device.advertised;
-    let partner = device.partner;
-    let flags = device.flags;
-    let reader = device.reader;
-    let after = Device {
-        state: State::CheckLink,
-        advertised: advertised,
-        partner: partner,
-        flags: flags,
-        talk: talk,
-        outcome: outcome,
-        reader: reader,
-    };
-    answered(outcome, after)
+    let resolution = resolve(device.link.talk.own, device.link.talk.held);
+    let counted = with_count(device, 3);
+    let started = with_timer(counted, reading);
+    let kept = with_outcome(started, Outcome::Resolved(resolution));
+    answered(resolution.answer(), with_state(kept, State::CheckLink))
 }
 
 // One more page was sent in Complete.
 fn count(device: Device, reading: u32) -> Reply
     ensures { λ r. ⌜ Meets r (counted rateOrder reading device) ⌝ }
 {
-    if 2 <= device.talk.count {
+    if 2 <= device.link.talk.count {
         return settle(device, reading);
     }
-    let one_more = device.talk.count + 1;
-    let mut after = device;
-    after.talk.count = one_more;
-    answered(Answer::Nothing, after)
+    let one_more = device.link.talk.count + 1;
+    answered(Answer::Nothing, with_count(device, one_more))
 }
 
 // Sent in a state that only ends the page.
 fn end_if_out(device: Device, reading: u32) -> Reply
     ensures { λ r. ⌜ Meets r (ifOut device (due nothing (ended reading device))) ⌝ }
 {
-    if device.talk.out {
+    if device.link.talk.out {
         return answered(Answer::Nothing, end(device, reading));
     }
     answered(Answer::Refused(Refusal::Turn), device)
@@ -74,7 +62,7 @@ fn end_if_out(device: Device, reading: u32) -> Reply
 fn count_if_out(device: Device, reading: u32) -> Reply
     ensures { λ r. ⌜ Meets r (ifOut device (counted rateOrder reading (ended reading device))) ⌝ }
 {
-    if device.talk.out {
+    if device.link.talk.out {
         return count(end(device, reading), reading);
     }
     answered(Answer::Refused(Refusal::Turn), device)

@@ -6,7 +6,6 @@ ghost use Rattle.port_timing.specs.Timers.{lowSpeed};
 ghost use Rattle.port_timing.specs.Ticks.{leavesBreak, holdsBack, mayOrder, orders, tickIn, tickDue};
 use crate::own_pages::echoing_page;
 use crate::own_pages::own_page;
-use crate::own_pages::word_of;
 use crate::profile::Profile;
 use crate::profile::inhibit_of;
 use crate::profile::low_speed;
@@ -19,29 +18,22 @@ use port_state::Reply;
 use port_state::State;
 use port_state::answered;
 use port_state::enter_break;
+use port_state::with_mark;
+use port_state::with_out;
+use port_state::with_own;
+use port_state::with_reader;
+use port_state::with_state;
+use port_state::word_of;
 
 // The break is over: the own page is made, and the device goes to Ability.
 fn leave_break(device: Device, reading: u32, draw: u64) -> Device
     ensures { λ r. ⌜ r ≡ leavesBreak reading draw device ⌝ }
 {
-    let advertised = device.advertised;
-    let own = own_page(word_of(advertised), draw);
-    let mut talk = device.talk;
-    talk.own = own;
-    talk.heard = false;
-    talk.mark = reading;
-    let partner = device.partner;
-    let flags = device.flags;
-    let outcome = device.outcome;
-    Device {
-        state: State::Ability,
-        advertised: advertised,
-        partner: partner,
-        flags: flags,
-        talk: talk,
-        outcome: outcome,
-        reader: Reader::Fresh,
-    }
+    let lasting = device.lasting;
+    let advertised = lasting.advertised;
+    let owning = with_own(device, own_page(word_of(advertised), draw));
+    let waiting = with_mark(owning, false, reading);
+    with_state(with_reader(waiting, Reader::Fresh), State::Ability)
 }
 
 // Whether an attempt is open whose last edge is too young for an order.
@@ -57,19 +49,20 @@ fn holds_back(quiet: u32, reader: Reader, reading: u32) -> bool
 
 // Whether a page may be ordered.
 fn may_order(profile: Profile, device: Device, reading: u32) -> bool
-    ensures { λ r. ⌜ r ≡ mayOrder profile reading (device .talk) (device .reader) ⌝ }
+    ensures { λ r. ⌜ r ≡ mayOrder profile reading (device .link) ⌝ }
 {
-    if device.talk.out {
+    if device.link.talk.out {
         return false;
     }
-    let reader = device.reader;
+    let link = device.link;
+    let reader = link.reader;
     if holds_back(profile.mode.quiet, reader, reading) {
         return false;
     }
-    if device.talk.heard {
-        return run_out(profile.silent, device.talk.mark, reading);
+    if device.link.talk.heard {
+        return run_out(profile.silent, device.link.talk.mark, reading);
     }
-    run_out(profile.wait, device.talk.mark, reading)
+    run_out(profile.wait, device.link.talk.mark, reading)
 }
 
 // Orders a page, if one may be.
@@ -77,9 +70,7 @@ fn order(profile: Profile, device: Device, word: u64, reading: u32) -> Reply
     ensures { λ r. ⌜ Meets r (orders profile reading word device) ⌝ }
 {
     if may_order(profile, device, reading) {
-        let mut after = device;
-        after.talk.out = true;
-        return answered(Answer::Order(word), after);
+        return answered(Answer::Order(word), with_out(device, true));
     }
     answered(Answer::Nothing, device)
 }
@@ -88,7 +79,7 @@ fn order(profile: Profile, device: Device, word: u64, reading: u32) -> Reply
 fn tick_in_break(profile: Profile, device: Device, reading: u32, draw: u64) -> Reply
     ensures { λ r. ⌜ Meets r (tickIn Break profile reading draw device) ⌝ }
 {
-    if run_out(profile.breaking, device.talk.timer, reading) {
+    if run_out(profile.breaking, device.link.talk.timer, reading) {
         return answered(Answer::Nothing, leave_break(device, reading, draw));
     }
     answered(Answer::Nothing, device)
@@ -98,8 +89,9 @@ fn tick_in_break(profile: Profile, device: Device, reading: u32, draw: u64) -> R
 fn tick_in_check_link(profile: Profile, device: Device, reading: u32, draw: u64) -> Reply
     ensures { λ r. ⌜ Meets r (tickIn CheckLink profile reading draw device) ⌝ }
 {
-    let outcome = device.outcome;
-    if run_out(inhibit_of(outcome), device.talk.timer, reading) {
+    let link = device.link;
+    let outcome = link.outcome;
+    if run_out(inhibit_of(outcome), device.link.talk.timer, reading) {
         return answered(Answer::Nothing, enter_break(device, reading));
     }
     answered(Answer::Nothing, device)
@@ -110,8 +102,8 @@ fn tick_by(profile: Profile, device: Device, reading: u32, draw: u64) -> Reply
     ensures { λ r. ⌜ Meets r (tickDue profile reading draw device) ⌝ }
 {
     let state = device.state;
-    let own = device.talk.own;
-    let held = device.talk.held;
+    let own = device.link.talk.own;
+    let held = device.link.talk.held;
     match state {
         State::Off => answered(Answer::Nothing, device),
         State::Break => tick_in_break(profile, device, reading, draw),

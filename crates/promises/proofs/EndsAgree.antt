@@ -2,7 +2,7 @@
 use Prim.Native.Nat.{ℕ}
 use mathlib.Core.Path.{_≡_, ap, ap₂, _∙_}
 use mathlib.Core.Bool.{Bool, _&&_}
-use Rattle.answers.specs.declared.Answer.the-variants.{Settled}
+use Rattle.page_resolve.specs.declared.resolving.Resolution.the-variants.{Settled}
 use Rattle.page_resolve.specs.Rates.{rateOrder}
 use Rattle.page_resolve.specs.Resolving.{resolutionOf}
 use Rattle.page_resolve.proofs.FirstInOrder.{settled-first, none-only}

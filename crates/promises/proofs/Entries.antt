@@ -1,25 +1,33 @@
 -- Every way into Break is one: whatever the device was, it is the entered device at the event's reading. An event that merely leaves a device in
 -- Break is none.
-use Prim.Native.Nat.{ℕ}
+use Prim.Native.Nat.{ℕ, _+_}
 use mathlib.Core.Path.{_≡_, refl, sym, ap, _∙_, subst}
 use mathlib.Core.Bool.{Bool, true, false, cond, not, _&&_, _||_, false≢true}
 use mathlib.Core.List.{List}
 use lib.Dec.{eqb, leb}
 use Rattle.answers.specs.Answers.{Said, nothing}
-use Rattle.page_word.specs.Fields.{fieldOf}
+use Rattle.page_word.specs.Fields.{fieldOf, hasOtherSelector, isTie}
 use Rattle.page_word.specs.declared.fields.Field.the-variants as field
-use Rattle.line_reader.specs.Reading.{Brings, edgeOf}
+use Rattle.line_reader.specs.declared.endings.Ending.the-variants.{Good, Gap, Cut, Check}
+use Rattle.line_reader.specs.declared.endings.Heard.{Heard}
+use Rattle.line_reader.specs.declared.endings.Heard.the-variants.{Nothing, Ended}
+use Rattle.line_reader.specs.declared.reader.Reader.{Reader}
+use Rattle.line_reader.specs.Reading.{edgeOf}
 use Rattle.port_state.specs.declared.State.{State}
 use Rattle.port_state.specs.declared.State.the-variants.{Off, Break, Ability, Ack, Complete, CheckLink, Up}
 use Rattle.port_state.specs.declared.Device.{Device}
-use Rattle.port_state.specs.Memory.{Due, due, isOff, intoBreak, intoOff, withState, withReader}
+use Rattle.port_state.specs.Memory.{Due, due, isOff, intoBreak, intoOff}
+use Rattle.port_state.specs.Changes.{withState, withReader}
 use Rattle.page_word.specs.Word.{hasBit}
-use Rattle.page_resolve.specs.Resolving.{hasOtherSelector, isTie}
-use Rattle.port_registers.specs.Registers.{registerOf, readDue, commanded, writeDue}
+use Rattle.port_registers.specs.declared.Bank.the-variants.{Advertised, Partner}
+use Rattle.port_registers.specs.declared.Register.{Register}
+use Rattle.port_registers.specs.declared.Register.the-variants.{Control, Status, Part, Missing}
+use Rattle.port_registers.specs.Registers.{registerOf, readAt, readDue, commanded, writeAt, writeDue}
+use Rattle.port_registers.proofs.RegisterNumbers.{isControl, control-number}
 use Rattle.line_mode.specs.declared.modes.LineMode.{LineMode}
 use Rattle.port_timing.specs.declared.profile.Profile.{Profile}
 use Rattle.port_timing.specs.Timers.{runOut, inhibitOf}
-use Rattle.port_hearing.specs.Edges.{isChanged, isTalking, echoesOther, pageInAbility, pageInAck, pageIn, listened, edgeDue}
+use Rattle.port_hearing.specs.Edges.{isChanged, isTalking, echoesOther, pageInAbility, pageInAck, pageIn, hears, edgeDue}
 use Rattle.port_timing.specs.Ticks.{mayOrder, orders, tickIn, tickDue}
 use Rattle.port_timing.specs.Sending.{counted, sentIn, sentDue}
 use Rattle.port_timing.specs.Reports.{hasRate, reportIn, reportDue}
@@ -27,7 +35,6 @@ use Rattle.port_step.specs.declared.events.Event.{Event}
 use Rattle.port_step.specs.declared.events.Event.the-variants.{Edge, Tick, Sent, Report, Read, Write, Unnamed}
 use Rattle.port_step.specs.Steps.{stepOver}
 use Rattle.promises.specs.TwoPasts.{isBreak, restarts, readingOf}
-use Rattle.promises.proofs.ByRegister.{by-register}
 
 -- If x is what an event at this reading brings to d: a device that is in Break, and was not or was restarted, is the entered one.
 pub record Entry (restarted : Bool) (reading : ℕ) (d : Device) (x : Due) : Type 0 where
@@ -62,40 +69,44 @@ module _ {reading : ℕ} {d : Device} where
 
 module _ (reading : ℕ) where
   -- Pages: Tie, Changed and Echo.
-  page-entry : (s : State) (word : ℕ) (d : Device) (b : Brings) → Entry false reading (withState s d) (pageIn s word reading (withReader (b .reader) (withState s d)))
+  page-entry : (s : State) (word : ℕ) (d : Device) (r : Reader) → Entry false reading (withState s d) (pageIn s word reading (withReader r (withState s d)))
   unfolding pageIn pageInAbility pageInAck
-  page-entry Off word d b = stays refl
-  page-entry Break word d b = stays refl
-  page-entry Ability word d b =
-      due-if (hasOtherSelector word) (stays refl) (due-if (isTie (d .talk .own) word) it (elsewhere refl))
-  page-entry Ack word d b =
-      due-if (isChanged word (d .talk .held)) it
-      (due-if (eqb (fieldOf field.Ack word) 0) (stays refl) (due-if (echoesOther (d .talk .own) word) it (elsewhere refl)))
-  page-entry Complete word d b = stays refl
-  page-entry CheckLink word d b = stays refl
-  page-entry Up word d b = stays refl
+  page-entry Off word d r = stays refl
+  page-entry Break word d r = stays refl
+  page-entry Ability word d r =
+      due-if (hasOtherSelector word) (stays refl) (due-if (isTie (d .link .talk .own) word) it (elsewhere refl))
+  page-entry Ack word d r =
+      due-if (isChanged word (d .link .talk .held)) it
+      (due-if (eqb (fieldOf field.Ack word) 0) (stays refl) (due-if (echoesOther (d .link .talk .own) word) it (elsewhere refl)))
+  page-entry Complete word d r = stays refl
+  page-entry CheckLink word d r = stays refl
+  page-entry Up word d r = stays refl
 
-  heard-entry : (b : Brings) (d : Device) → Entry false reading d (listened b reading d)
-  unfolding listened
-  heard-entry b d = due-if (eqb (b .says .kind) 0x80) (page-entry (d .state) (b .says .value) d b) (stays refl)
+  heard-entry : (h : Heard) (r : Reader) (d : Device) → Entry false reading d (hears h reading (withReader r d))
+  unfolding hears
+  heard-entry Nothing r d = stays refl
+  heard-entry (Ended (Good word)) r d = page-entry (d .state) word d r
+  heard-entry (Ended Gap) r d = stays refl
+  heard-entry (Ended Cut) r d = stays refl
+  heard-entry (Ended Check) r d = stays refl
 
   edge-entry : (mode : LineMode) (d : Device) → Entry false reading d (edgeDue mode reading d)
   unfolding edgeDue
   edge-entry mode d =
-      due-if (isTalking (d .state) && not (d .talk .out)) (heard-entry (edgeOf mode (d .reader) reading) d) (stays refl)
+      due-if (isTalking (d .state) && not (d .link .talk .out)) (heard-entry (edgeOf mode (d .link .reader) reading .heard) (edgeOf mode (d .link .reader) reading .reader) d) (stays refl)
 
   -- Ticks: the inhibit timer in Check-link.
   order-entry : (p : Profile) (word : ℕ) (d : Device) → Entry false reading d (orders p reading word d)
   unfolding orders
-  order-entry p word d = due-if (mayOrder p reading (d .talk) (d .reader)) (stays refl) (stays refl)
+  order-entry p word d = due-if (mayOrder p reading (d .link)) (stays refl) (stays refl)
 
   tick-in : (s : State) (p : Profile) (draw : ℕ) (d : Device) → Entry false reading (withState s d) (tickIn s p reading draw (withState s d))
   tick-in Off p draw d = stays refl
-  tick-in Break p draw d = entry-if (runOut (p .breaking) (d .talk .timer) reading) (elsewhere refl) (stays refl)
+  tick-in Break p draw d = entry-if (runOut (p .breaking) (d .link .talk .timer) reading) (elsewhere refl) (stays refl)
   tick-in Ability p draw d = order-entry p _ (withState Ability d)
   tick-in Ack p draw d = order-entry p _ (withState Ack d)
   tick-in Complete p draw d = order-entry p _ (withState Complete d)
-  tick-in CheckLink p draw d = entry-if (runOut (inhibitOf (d .outcome)) (d .talk .timer) reading) it (stays refl)
+  tick-in CheckLink p draw d = entry-if (runOut (inhibitOf (d .link .outcome)) (d .link .talk .timer) reading) it (stays refl)
   tick-in Up p draw d = stays refl
 
   tick-entry : (p : Profile) (draw : ℕ) (d : Device) → Entry false reading d (tickDue p reading draw d)
@@ -107,11 +118,11 @@ module _ (reading : ℕ) where
   unfolding counted
   sent-in Off order d = stays refl
   sent-in Break order d = stays refl
-  sent-in Ability order d = due-if (d .talk .out) (stays refl) (stays refl)
-  sent-in Ack order d = due-if (d .talk .out) (stays refl) (stays refl)
-  sent-in Complete order d = due-if (d .talk .out) (due-if (leb 2 (d .talk .count)) (elsewhere refl) (stays refl)) (stays refl)
-  sent-in CheckLink order d = due-if (d .talk .out) (stays refl) (stays refl)
-  sent-in Up order d = due-if (d .talk .out) (stays refl) (stays refl)
+  sent-in Ability order d = due-if (d .link .talk .out) (stays refl) (stays refl)
+  sent-in Ack order d = due-if (d .link .talk .out) (stays refl) (stays refl)
+  sent-in Complete order d = due-if (d .link .talk .out) (due-if (leb 3 (d .link .talk .count + 1)) (elsewhere refl) (stays refl)) (stays refl)
+  sent-in CheckLink order d = due-if (d .link .talk .out) (stays refl) (stays refl)
+  sent-in Up order d = due-if (d .link .talk .out) (stays refl) (stays refl)
 
   sent-entry : (order : List ℕ) (d : Device) → Entry false reading d (sentDue order reading d)
   unfolding sentDue
@@ -124,7 +135,7 @@ module _ (reading : ℕ) where
   report-in Ability up d = stays refl
   report-in Ack up d = stays refl
   report-in Complete up d = stays refl
-  report-in CheckLink up d = entry-if up (entry-if (hasRate (d .outcome)) (elsewhere refl) (stays refl)) (stays refl)
+  report-in CheckLink up d = entry-if up (entry-if (hasRate (d .link .outcome)) (elsewhere refl) (stays refl)) (stays refl)
   report-in Up up d = entry-if up (stays refl) it
 
   report-entry : (up : Bool) (d : Device) → Entry false reading d (reportDue up reading d)
@@ -132,13 +143,15 @@ module _ (reading : ℕ) where
   report-entry up d = report-in (d .state) up d
 
   -- Reads: none.
+  read-at : (r : Register) (d : Device) → Entry false reading d (readAt r d)
+  read-at Control d = stays refl
+  read-at Status d = stays refl
+  read-at (Part bank third) d = stays refl
+  read-at Missing d = stays refl
+
   read-entry : (n : ℕ) (d : Device) → Entry false reading d (readDue n d)
-  unfolding readDue registerOf
-  read-entry n d =
-      by-register (λ (m : ℕ). Entry false reading d (readDue m d))
-      (stays refl) (stays refl) (stays refl) (stays refl) (stays refl) (stays refl) (stays refl) (stays refl)
-      (λ m no. rw (no .read d) (stays refl))
-      n
+  unfolding readDue
+  read-entry n d = read-at (registerOf n) d
 
   -- Writes: enabling and restarting.
   command-entry : (enable restart : Bool) (d : Device)
@@ -147,14 +160,18 @@ module _ (reading : ℕ) where
   command-entry true false d = entry-if (isOff (d .state)) it (stays refl)
   command-entry false restart d = elsewhere refl
 
+  write-at : (r : Register) (value : ℕ) (d : Device)
+      → Entry (isControl r && (hasBit value 12 && hasBit value 9)) reading d (writeAt r value reading d)
+  unfolding commanded
+  write-at Control value d = entry-if (hasBit value 15) (elsewhere refl) (command-entry (hasBit value 12) (hasBit value 9) d)
+  write-at Status value d = stays refl
+  write-at (Part Advertised third) value d = stays refl
+  write-at (Part Partner third) value d = stays refl
+  write-at Missing value d = stays refl
+
   write-entry : (n value : ℕ) (d : Device) → Entry (eqb n 512 && (hasBit value 12 && hasBit value 9)) reading d (writeDue n value reading d)
-  unfolding writeDue registerOf commanded
-  write-entry n value d =
-      by-register (λ (m : ℕ). Entry (eqb m 512 && (hasBit value 12 && hasBit value 9)) reading d (writeDue m value reading d))
-      (entry-if (hasBit value 15) (elsewhere refl) (command-entry (hasBit value 12) (hasBit value 9) d))
-      (stays refl) (stays refl) (stays refl) (stays refl) (stays refl) (stays refl) (stays refl)
-      (λ m no. rw (no .write value reading d, no .command) (stays refl))
-      n
+  unfolding writeDue
+  write-entry n value d = rw (control-number n) (write-at (registerOf n) value d)
 
 pub step-entry : (p : Profile) (order : List ℕ) (e : Event) (d : Device) → Entry (restarts e) (readingOf e) d (stepOver p order e d)
 unfolding stepOver

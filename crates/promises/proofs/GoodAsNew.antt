@@ -2,9 +2,10 @@
 use Prim.Native.Nat.{ℕ}
 use mathlib.Core.Path.{_≡_, refl, sym, subst}
 use mathlib.Core.List.{List}
-use Rattle.port_state.specs.declared.PageRegisters.{PageRegisters}
+use Rattle.port_state.specs.declared.page_registers.PageRegisters.{PageRegisters}
 use Rattle.port_state.specs.declared.Device.{Device}
-use Rattle.port_state.specs.Memory.{freshDevice, intoBreak, withAdvertised}
+use Rattle.port_state.specs.Memory.{freshDevice, intoBreak}
+use Rattle.port_state.specs.Changes.{withAdvertised}
 use Rattle.port_registers.specs.Registers.{registerOf, commanded, writeDue}
 use Rattle.port_step.specs.declared.events.Event.{Event}
 use Rattle.port_step.specs.Steps.{stepOver, afterAll}
@@ -18,9 +19,9 @@ same-turned p =
     record { answers = sym (p .answers); registers = λ n. sym (p .registers n); pages = sym (p .pages) }
 
 -- Two devices that enter Break at one reading, the first with the advertisement of the second: on a clock that is shifted by 0 both are one.
-pub same-reading : (r : ℕ) (d c : Device) (later : List Event) → Same (intoBreak r (withAdvertised (c .advertised) d)) later (intoBreak r c) later
+pub same-reading : (r : ℕ) (d c : Device) (later : List Event) → Same (intoBreak r (withAdvertised (c .lasting .advertised) d)) later (intoBreak r c) later
 same-reading r d c later =
-    same-both (same-runs 0 later (c .flags) (intoBreak r (withAdvertised (c .advertised) d))) (same-turned (same-runs 0 later (c .flags) (intoBreak r c)))
+    same-both (same-runs 0 later (c .lasting .flags) (intoBreak r (withAdvertised (c .lasting .advertised) d))) (same-turned (same-runs 0 later (c .lasting .flags) (intoBreak r c)))
 
 -- A new device has just entered Break.
 new-entered : (r : ℕ) (a : PageRegisters) → afterAll freshDevice (switchedOn r a) ≡ intoBreak r (withAdvertised a freshDevice)
@@ -29,8 +30,8 @@ new-entered r a = refl
 
 pub as-if-new : AsIfNew
 as-if-new m later =
-    subst (λ (x : Device). Same x later (afterAll freshDevice (switchedOn r (x .advertised))) later) (sym (has-entered m))
-    (subst (λ (y : Device). Same (intoBreak r d) later y later) (sym (new-entered r (d .advertised)))
+    subst (λ (x : Device). Same x later (afterAll freshDevice (switchedOn r (x .lasting .advertised))) later) (sym (has-entered m))
+    (subst (λ (y : Device). Same (intoBreak r d) later y later) (sym (new-entered r (d .lasting .advertised)))
     (same-turned (same-reading r freshDevice d later)))
   where
     r : ℕ

@@ -1,7 +1,6 @@
 pub mod Twins
 pub mod TwinEdges
 pub mod TwinTicks
-pub mod ByRegister
 pub mod TwinRegisters
 pub mod TwinSteps
 pub mod TwinRuns

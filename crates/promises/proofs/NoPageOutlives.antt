@@ -6,16 +6,17 @@ use mathlib.Core.List.{List, [], _∷_, map}
 use native.Mathlib.Omega.{arith}
 use Rattle.page_resolve.specs.Rates.{rateOrder}
 use Rattle.line_mode.specs.Clock.{timeBetween}
-use Rattle.port_state.specs.declared.PageRegisters.{PageRegisters}
+use Rattle.port_state.specs.declared.page_registers.PageRegisters.{PageRegisters}
 use Rattle.port_state.specs.declared.Device.{Device}
-use Rattle.port_state.specs.Memory.{freshDevice, intoBreak, withAdvertised}
+use Rattle.port_state.specs.Memory.{freshDevice, intoBreak}
+use Rattle.port_state.specs.Changes.{withAdvertised}
 use Rattle.port_registers.specs.Registers.{readDue}
 use Rattle.port_timing.specs.Timers.{lowSpeed}
 use Rattle.port_step.specs.declared.events.Event.{Event}
 use Rattle.port_step.specs.declared.events.Event.the-variants.{Edge, Tick, Sent, Report, Read, Write, Unnamed}
 use Rattle.port_step.specs.Steps.{saysTo, afterAll}
 use Rattle.promises.specs.TwoPasts.{Module, deviceOf, readingOf, difference, shiftedBy, compared, comparedValue, orderedPages, Same, NoPageOutlivesItsLink}
-use Rattle.promises.proofs.Twins.{twin}
+use Rattle.port_state.proofs.ClockAhead.{twin}
 use Rattle.promises.proofs.TwinRuns.{exact-says, exact-value, same-runs}
 use Rattle.promises.proofs.Entries.{step-entry}
 
@@ -37,7 +38,7 @@ settled-events δ [] = refl
 settled-events δ (e ∷ later) = ap₂ (λ (x : Event) (rest : List Event). x ∷ rest) (settled-event δ e) (settled-events δ later)
 
 -- Given shifted events, a device whose readings are taken modulo 2^32 is not told from itself.
-pub settled : (δ : ℕ) (later : List Event) (d : Device) → Same (twin 0 (d .flags) d) (map (shiftedBy δ) later) d (map (shiftedBy δ) later)
+pub settled : (δ : ℕ) (later : List Event) (d : Device) → Same (twin 0 (d .lasting .flags) d) (map (shiftedBy δ) later) d (map (shiftedBy δ) later)
 settled δ later d =
     record {
       answers = ap (compared later′) (sym says);
@@ -48,13 +49,13 @@ settled δ later d =
     later′ : List Event
     later′ = map (shiftedBy δ) later
 
-    says : saysTo d later′ ≡ saysTo (twin 0 (d .flags) d) later′
-    says = exact-says 0 later′ d ∙ ap (saysTo (twin 0 (d .flags) d)) (settled-events δ later)
+    says : saysTo d later′ ≡ saysTo (twin 0 (d .lasting .flags) d) later′
+    says = exact-says 0 later′ d ∙ ap (saysTo (twin 0 (d .lasting .flags) d)) (settled-events δ later)
 
-    value : (n : ℕ) → readDue n (afterAll d later′) .says ≡ readDue n (afterAll (twin 0 (d .flags) d) later′) .says
+    value : (n : ℕ) → readDue n (afterAll d later′) .says ≡ readDue n (afterAll (twin 0 (d .lasting .flags) d) later′) .says
     value n =
         exact-value 0 later′ d n
-        ∙ ap (λ (events : List Event). readDue n (afterAll (twin 0 (d .flags) d) events) .says) (settled-events δ later)
+        ∙ ap (λ (events : List Event). readDue n (afterAll (twin 0 (d .lasting .flags) d) events) .says) (settled-events δ later)
 
 pub same-both : {a b c : Device} {events events′ events″ : List Event} → Same a events b events′ → Same b events′ c events″ → Same a events c events″
 same-both p q =
@@ -65,19 +66,19 @@ meets : (r s : ℕ) → (r + timeBetween s r) % 2 ^ 32 ≡ (s + 0) % 2 ^ 32
 meets r s = omega arith
 
 -- Two entered devices with the same advertisement.
-entered-twins : (r s : ℕ) (d c : Device) → d .advertised ≡ c .advertised
-    → twin (timeBetween s r) (c .flags) (intoBreak r d) ≡ twin 0 (c .flags) (intoBreak s c)
+entered-twins : (r s : ℕ) (d c : Device) → d .lasting .advertised ≡ c .lasting .advertised
+    → twin (timeBetween s r) (c .lasting .flags) (intoBreak r d) ≡ twin 0 (c .lasting .flags) (intoBreak s c)
 entered-twins r s d c same = ap₂ (λ (time : ℕ) (a : PageRegisters). intoBreak time (withAdvertised a c)) (meets r s) same
 
 -- What two devices show that have entered Break with the same advertisement, whatever they were before.
 abbrev EnteredSame : Type 0
 EnteredSame =
-    (r s : ℕ) (d c : Device) (later : List Event) → d .advertised ≡ c .advertised
+    (r s : ℕ) (d c : Device) (later : List Event) → d .lasting .advertised ≡ c .lasting .advertised
     → Same (intoBreak r d) later (intoBreak s c) (map (shiftedBy (timeBetween s r)) later)
 
 entered-same : EnteredSame
 entered-same r s d c later same =
-    same-both (same-runs δ later (c .flags) (intoBreak r d))
+    same-both (same-runs δ later (c .lasting .flags) (intoBreak r d))
     (subst (λ (x : Device). Same x (map (shiftedBy δ) later) (intoBreak s c) (map (shiftedBy δ) later)) (sym (entered-twins r s d c same)) (settled δ later (intoBreak s c)))
   where
     δ : ℕ
@@ -112,10 +113,10 @@ by-entries entered alike first second later same =
     later′ : List Event
     later′ = map (shiftedBy (difference first second)) later
 
-    advertised : d .advertised ≡ c .advertised
+    advertised : d .lasting .advertised ≡ c .lasting .advertised
     advertised =
-        sym (ap (λ (x : Device). x .advertised) (entered first)) ∙ same
-        ∙ ap (λ (x : Device). x .advertised) (entered second)
+        sym (ap (λ (x : Device). x .lasting .advertised) (entered first)) ∙ same
+        ∙ ap (λ (x : Device). x .lasting .advertised) (entered second)
 
 pub no-page-outlives-its-link : NoPageOutlivesItsLink
 no-page-outlives-its-link = by-entries has-entered entered-same

@@ -8,7 +8,8 @@ use Rattle.page_word.specs.Word.{bitsOf}
 use Rattle.page_check_bits.specs.CheckBits.{plus, checkList}
 use Rattle.page_check_bits.proofs.Remainders.{scaled, times, quotient, divisible, no-other}
 use Rattle.page_check_bits.proofs.Strength.{differing}
-use Rattle.line_mode.specs.Delimiters.{among}
+use Rattle.page_word.specs.Lists.{among}
+use Rattle.line_mode.specs.declared.modes.LineMode.{LineMode}
 use Rattle.line_writer.specs.Transitions.{transitions}
 use Rattle.line_writer.proofs.Damage.{hasAt, pages-apart}
 use Rattle.promises.specs.SmallDamage.{multipleBy, changedBelow, FarApart, SmallDamage}
@@ -33,10 +34,10 @@ check-alone : (w : ℕ) (q bits : List Bool) → length bits ≡ 16 → multiple
 unfolding checkList
 check-alone w q bits long e = no-other (bitsOf 48 w) bits q long (sym (same-multiple q) ∙ e)
 
-far-apart : (slow : Bool) (w v : ℕ) → w < 2 ^ 48 → v < 2 ^ 48 → (w ≡ v → ⊥) → FarApart (transitions slow w) (transitions slow v)
-far-apart slow w v word word′ other =
-    let apart = pages-apart w v word word′ other slow in
-    let counted = same-changed 158 (transitions slow w) (transitions slow v) in
+far-apart : (mode : LineMode) (w v : ℕ) → w < 2 ^ 48 → v < 2 ^ 48 → (w ≡ v → ⊥) → FarApart (transitions mode w) (transitions mode v)
+far-apart mode w v word word′ other =
+    let apart = pages-apart w v word word′ other mode in
+    let counted = same-changed 158 (transitions mode w) (transitions mode v) in
     record {
       even = ap (λ (n : ℕ). n % 2) counted ∙ apart .even;
       four = subst (λ (n : ℕ). 4 ≤ n) (sym counted) (apart .four);

@@ -14,26 +14,27 @@ use Rattle.page_resolve.specs.Resolving.{resolutionOf}
 use Rattle.line_mode.specs.Modes.{modeOf}
 use Rattle.line_mode.specs.Gaps.{judgementOf}
 use Rattle.line_writer.specs.Transitions.{sentBits, hasTransition, positionsTo, transitions, readings, edgeCount}
-use Rattle.line_writer.specs.Writing.{saysIn, leavesIn, writeSays, writeLeaves}
-use Rattle.line_reader.specs.declared.reader.Reader.{Reader}
+use Rattle.line_writer.specs.Writing.{writeIn, writeOf}
 use Rattle.line_reader.specs.declared.reader.Reader.the-variants.{Dropping}
-use Rattle.line_reader.specs.Pattern.{asks, always, byBit, isClock}
+use Rattle.line_page.specs.Pattern.{isClock, isBit, standsAt}
+use Rattle.line_reader.specs.Pattern.{asks}
 use Rattle.line_reader.specs.Reading.{edgeOf, arrives, goesOn, dropsOn}
 use Rattle.line_captures.specs.Captures.{readIn, readOf}
-use Rattle.port_state.specs.declared.State.the-variants.{Ack}
-use Rattle.port_state.specs.declared.Talk.{Talk}
+use Rattle.port_state.specs.declared.State.the-variants.{Ability, Ack}
 use Rattle.port_state.specs.declared.Device.{Device}
-use Rattle.port_state.specs.Memory.{Due, due, freshDevice, withReader, wordOf}
+use Rattle.port_state.specs.PageRegisters.{wordOf, registersOf}
+use Rattle.port_state.specs.Memory.{Due, due, freshDevice, intoBreak}
+use Rattle.port_state.specs.Changes.{withState, withAdvertised, withOwn, withMark, withReader}
 use Rattle.port_registers.specs.Registers.{registerOf, readDue, commanded, writeDue}
 use Rattle.port_timing.specs.OwnPages.{nonceFor, ownPage, echoingPage}
-use Rattle.port_hearing.specs.Edges.{beyondAckAndEcho, pageInAbility, pageInAck, pageIn, listened, edgeDue}
+use Rattle.port_hearing.specs.Edges.{beyondAckAndEcho, pageInAbility, pageInAck, pageIn, hears, edgeDue}
 use Rattle.port_timing.specs.Ticks.{mayOrder, orders, tickDue}
 use Rattle.port_timing.specs.Sending.{counted, sentDue}
 use Rattle.port_timing.specs.Reports.{reportDue}
 use Rattle.port_step.specs.declared.events.Event.{Event}
 use Rattle.port_step.specs.declared.events.Event.the-variants.{Sent, Read, Write}
 use Rattle.port_step.specs.Steps.{stepOver, stepDue, saysTo, afterAll}
-use Rattle.port_step.specs.Runs.{eventOf, eventsOf, runSays, runLeaves}
+use Rattle.port_step.specs.Runs.{eventOf, eventsOf, runOf}
 use Rattle.bench_listing.specs.Words.{decimal}
 use Rattle.bench_listing.specs.Listing.{given, refusedLine, listing}
 use Rattle.promises.specs.FirstLink.{pageFrom, toAbility, toAck}
@@ -52,36 +53,28 @@ no-register-written : (reading : ℕ) (d : Device) → stepDue (Write reading 51
 unfolding stepOver writeDue registerOf
 no-register-written reading d = refl
 
-nothing-out : (reading : ℕ) (d : Device) → d .state ≡ Ack → d .talk .out ≡ false → stepDue (Sent reading) d ≡ due (refused Turn) d
+nothing-out : (reading : ℕ) (d : Device) → d .state ≡ Ack → d .link .talk .out ≡ false → stepDue (Sent reading) d ≡ due (refused Turn) d
 unfolding stepOver sentDue
 nothing-out reading d state out = rw (state, out)
 
--- A device that is another but for its reader.
-but-for-reader : (reader : Reader) (d e : Device) → d .state ≡ e .state → d .advertised ≡ e .advertised → d .partner ≡ e .partner → d .flags ≡ e .flags
-    → d .talk ≡ e .talk → d .outcome ≡ e .outcome → d .reader ≡ reader → d ≡ withReader reader e
-but-for-reader reader d e s a p f t o r = let whole : withReader (d .reader) d ≡ withReader reader e = cc in whole
+-- The device in Ability: the own page is made, and the mark is "waiting" since the break timer was out.
+abbrev inAbility : Device
+inAbility = withState Ability (withMark false 8000000 (withOwn 0x850001 (intoBreak 0 (withAdvertised (registersOf 0x800000) freshDevice))))
 
--- What belongs to the link in Ability: the own page, and a mark "waiting" since the break timer was out.
-abbrev talkWaiting : Talk
-talkWaiting = record { own = 0x850001; held = 0; count = 0; mark = 8000000; timer = 0; out = false; heard = false; latch = false }
-
-talk-before : afterAll freshDevice toAbility .talk ≡ talkWaiting
+before-page : afterAll freshDevice toAbility ≡ inAbility
 unfolding afterAll stepOver tickDue writeDue registerOf commanded ownPage nonceFor wordOf part withPart
-talk-before = refl
+before-page = refl
 
-talk-after : afterAll freshDevice (toAbility ++ pageFrom 8001000 0xA90002) .talk ≡ talkWaiting
-unfolding afterAll stepOver tickDue writeDue registerOf commanded ownPage nonceFor wordOf part withPart edgeDue listened edgeOf goesOn dropsOn judgementOf asks always byBit arrives isClock agrees checkBits checkList remainder xor readings transitions positionsTo hasTransition sentBits pageIn pageInAbility
-talk-after = refl
+after-page : afterAll freshDevice (toAbility ++ pageFrom 8001000 0xA90002) ≡ withReader (Dropping 8125800) inAbility
+unfolding afterAll stepOver tickDue writeDue registerOf commanded ownPage nonceFor wordOf part withPart edgeDue hears edgeOf goesOn dropsOn judgementOf asks standsAt isBit arrives isClock agrees checkBits checkList remainder xor readings transitions positionsTo hasTransition sentBits pageIn pageInAbility
+after-page = refl
 
 -- A page with another selector in Ability leaves all of the device but the reader.
 stays : afterAll freshDevice (toAbility ++ pageFrom 8001000 0xA90002) ≡ withReader (Dropping 8125800) (afterAll freshDevice toAbility)
-unfolding afterAll stepOver tickDue writeDue registerOf commanded ownPage nonceFor wordOf part withPart edgeDue listened edgeOf goesOn dropsOn judgementOf asks always byBit arrives isClock agrees checkBits checkList remainder xor readings transitions positionsTo hasTransition sentBits pageIn pageInAbility
-stays =
-    but-for-reader (Dropping 8125800) (afterAll freshDevice (toAbility ++ pageFrom 8001000 0xA90002)) (afterAll freshDevice toAbility)
-    refl refl refl refl (talk-after ∙ sym talk-before) refl refl
+stays = after-page ∙ ap (withReader (Dropping 8125800)) (sym before-page)
 
 pub each-refusal : EachRefusal
-unfolding afterAll saysTo stepOver tickDue writeDue sentDue reportDue registerOf commanded ownPage echoingPage nonceFor wordOf beyondAckAndEcho part withPart edgeDue listened edgeOf goesOn dropsOn judgementOf asks always byBit arrives isClock agrees checkBits checkList remainder xor readings transitions positionsTo hasTransition sentBits pageIn pageInAbility pageInAck mayOrder orders counted resolutionOf hasAbility roleOf writeSays writeLeaves saysIn leavesIn edgeCount modeOf readOf readIn runSays runLeaves eventsOf eventOf listing given refusedLine decimal
+unfolding afterAll saysTo stepOver tickDue writeDue sentDue reportDue registerOf commanded ownPage echoingPage nonceFor wordOf beyondAckAndEcho part withPart edgeDue hears edgeOf goesOn dropsOn judgementOf asks standsAt isBit arrives isClock agrees checkBits checkList remainder xor readings transitions positionsTo hasTransition sentBits pageIn pageInAbility pageInAck mayOrder orders counted resolutionOf hasAbility roleOf writeOf writeIn edgeCount modeOf readOf readIn runOf eventsOf eventOf listing given refusedLine decimal
 each-refusal =
     record {
       gap = record { run = record { said = refl; left = refl }; left = refl };
@@ -100,12 +93,12 @@ each-refusal =
       turn-break = record { says = refl; kept = refl };
       turn-no-page = kept toAck (Sent 8200000) Turn (nothing-out 8200000 (afterAll freshDevice toAck) refl refl);
       room-read = refl;
-      room-past-end = record { says = refl; kept = refl };
-      room-fewer = record { says = refl; kept = refl };
-      room-run = record { says = refl; kept = refl };
-      wide = record { says = refl; kept = refl };
-      mode = record { says = refl; kept = refl };
-      mode-first = record { says = refl; kept = refl };
-      wide-next = record { says = refl; kept = refl };
+      room-past-end = refl;
+      room-fewer = refl;
+      room-run = refl;
+      wide = refl;
+      mode = refl;
+      mode-first = refl;
+      wide-next = refl;
       odd = refl;
     }

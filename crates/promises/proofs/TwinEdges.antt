@@ -1,45 +1,48 @@
 -- An edge: a device and its twin say the same and stay twins.
 use Prim.Native.Nat.{ℕ}
 use mathlib.Core.Path.{refl, ap}
-use mathlib.Core.Bool.{not, _&&_}
+use mathlib.Core.Bool.{true, not, _&&_}
 use lib.Dec.{eqb}
 use Rattle.answers.specs.Answers.{nothing, refused, pageRead}
-use Rattle.answers.specs.declared.Refusal.the-variants.{Selector, Tie, Changed, Echo}
-use Rattle.page_word.specs.Fields.{fieldOf}
+use Rattle.answers.specs.declared.Refusal.the-variants as refusal
+use Rattle.page_word.specs.Fields.{fieldOf, hasOtherSelector, isTie}
 use Rattle.page_word.specs.declared.fields.Field.the-variants as field
-use Rattle.page_resolve.specs.Resolving.{hasOtherSelector, isTie}
-use Rattle.line_reader.specs.Reading.{Brings, edgeOf}
-use Rattle.line_reader.proofs.ClockShift.{bringsLater, edge-later}
+use Rattle.line_reader.specs.declared.endings.Ending.the-variants.{Good, Gap, Cut, Check}
+use Rattle.line_reader.specs.declared.endings.Heard.{Heard}
+use Rattle.line_reader.specs.declared.endings.Heard.the-variants.{Nothing, Ended}
+use Rattle.line_reader.specs.Reading.{edgeOf}
+use Rattle.line_reader.proofs.ClockShift.{edge-later}
 use Rattle.port_state.specs.declared.State.{State}
 use Rattle.port_state.specs.declared.State.the-variants.{Off, Break, Ability, Ack, Complete, CheckLink, Up}
 use Rattle.port_state.specs.declared.Flags.{Flags}
 use Rattle.port_state.specs.declared.Device.{Device}
-use Rattle.port_state.specs.Memory.{withState, withReader}
+use Rattle.port_state.specs.Changes.{withState, withReader}
 use Rattle.line_mode.specs.declared.modes.LineMode.{LineMode}
-use Rattle.port_hearing.specs.Edges.{isChanged, isTalking, flagsBy, echoesOther, pageInAbility, pageInAck, pageIn, listened, edgeDue}
-use Rattle.promises.proofs.Twins.{twin, Alike, alike-if, kept, saying-same}
+use Rattle.port_hearing.specs.Edges.{isChanged, isTalking, faultAfter, echoesOther, pageInAbility, pageInAck, pageIn, hears, edgeDue}
+use Rattle.port_state.proofs.ClockAhead.{twin}
+use Rattle.promises.proofs.Twins.{Alike, alike-if, kept, saying-same}
 use Rattle.promises.specs.TwoPasts.{shifted}
 
 module _ (δ : ℕ) (g : Flags) (reading : ℕ) where
   -- Good pages, by state.
   in-ability : (word : ℕ) (d : Device)
-      → Alike δ (d .flags) g (pageInAbility word reading (withState Ability d)) (pageInAbility word (shifted δ reading) (twin δ g (withState Ability d)))
+      → Alike δ (d .lasting .flags) g (pageInAbility word reading (withState Ability d)) (pageInAbility word (shifted δ reading) (twin δ g (withState Ability d)))
   unfolding pageInAbility
   in-ability word d =
-      alike-if (hasOtherSelector word) (saying-same (refused Selector) kept)
-      (alike-if (isTie (d .talk .own) word) (saying-same (refused Tie) kept) (saying-same (pageRead word) kept))
+      alike-if (hasOtherSelector word) (saying-same (refused refusal.Selector) kept)
+      (alike-if (isTie (d .link .talk .own) word) (saying-same (refused refusal.Tie) kept) (saying-same (pageRead word) kept))
 
   in-ack : (word : ℕ) (d : Device)
-      → Alike δ (d .flags) g (pageInAck word reading (withState Ack d)) (pageInAck word (shifted δ reading) (twin δ g (withState Ack d)))
+      → Alike δ (d .lasting .flags) g (pageInAck word reading (withState Ack d)) (pageInAck word (shifted δ reading) (twin δ g (withState Ack d)))
   unfolding pageInAck
   in-ack word d =
-      alike-if (isChanged word (d .talk .held)) (saying-same (refused Changed) kept)
+      alike-if (isChanged word (d .link .talk .held)) (saying-same (refused refusal.Changed) kept)
       (alike-if (eqb (fieldOf field.Ack word) 0) (saying-same (pageRead word) kept)
-      (alike-if (echoesOther (d .talk .own) word) (saying-same (refused Echo) kept)
-      (saying-same (pageRead word) (record { device = refl; flags = λ h. ap (flagsBy word) h }))))
+      (alike-if (echoesOther (d .link .talk .own) word) (saying-same (refused refusal.Echo) kept)
+      (saying-same (pageRead word) (record { device = refl; flags = λ h. ap (λ (f : Flags). record { received = true; fault = faultAfter word (f .fault) }) h }))))
 
   in-state : (s : State) (word : ℕ) (d : Device)
-      → Alike δ (d .flags) g (pageIn s word reading (withState s d)) (pageIn s word (shifted δ reading) (twin δ g (withState s d)))
+      → Alike δ (d .lasting .flags) g (pageIn s word reading (withState s d)) (pageIn s word (shifted δ reading) (twin δ g (withState s d)))
   unfolding pageIn
   in-state Off word d = saying-same nothing kept
   in-state Break word d = saying-same nothing kept
@@ -49,15 +52,19 @@ module _ (δ : ℕ) (g : Flags) (reading : ℕ) where
   in-state CheckLink word d = saying-same nothing kept
   in-state Up word d = saying-same nothing kept
 
-  -- What the reader brings, later by δ.
-  heard : (b : Brings) (d : Device) → Alike δ (d .flags) g (listened b reading d) (listened (bringsLater δ b) (shifted δ reading) (twin δ g d))
-  unfolding listened
-  heard b d =
-      alike-if (eqb (b .says .kind) 0x80) (in-state (d .state) (b .says .value) (withReader (b .reader) d)) (saying-same (b .says) kept)
+  -- What was heard.
+  heard : (h : Heard) (d : Device) → Alike δ (d .lasting .flags) g (hears h reading d) (hears h (shifted δ reading) (twin δ g d))
+  unfolding hears
+  heard Nothing d = saying-same nothing kept
+  heard (Ended (Good word)) d = in-state (d .state) word d
+  heard (Ended Gap) d = saying-same (refused refusal.Gap) kept
+  heard (Ended Cut) d = saying-same (refused refusal.Cut) kept
+  heard (Ended Check) d = saying-same (refused refusal.Check) kept
 
-  pub edge-alike : (mode : LineMode) (d : Device) → Alike δ (d .flags) g (edgeDue mode reading d) (edgeDue mode (shifted δ reading) (twin δ g d))
+  pub edge-alike : (mode : LineMode) (d : Device) → Alike δ (d .lasting .flags) g (edgeDue mode reading d) (edgeDue mode (shifted δ reading) (twin δ g d))
   unfolding edgeDue
   edge-alike mode d =
-      alike-if (isTalking (d .state) && not (d .talk .out))
-      (rw (edge-later mode δ (d .reader) reading) (heard (edgeOf mode (d .reader) reading) d))
+      let brought = edgeOf mode (d .link .reader) reading in
+      alike-if (isTalking (d .state) && not (d .link .talk .out))
+      (rw (edge-later mode δ (d .link .reader) reading) (heard (brought .heard) (withReader (brought .reader) d)))
       (saying-same nothing kept)

@@ -1,24 +1,30 @@
 -- Registers: a read and a write. A device and its twin say the same and stay twins, but for a read of 7.513: its answers agree without bits 6 and 4,
 -- which are the flags, and after it the flags are clear at both.
 use Prim.Native.Nat.{ℕ}
-use mathlib.Core.Path.{_≡_, refl, sym, ap, _∙_}
-use mathlib.Core.Bool.{Bool, true, false, true≢false, _||_}
+use mathlib.Core.Path.{_≡_, refl, sym, _∙_}
+use mathlib.Core.Bool.{Bool, true, false, true≢false}
 use lib.Dec.{eqb}
 use Rattle.answers.specs.Answers.{nothing, refused, registerValue}
-use Rattle.answers.specs.declared.Refusal.the-variants.{Register}
+use Rattle.answers.specs.declared.Refusal.the-variants as refusal
 use Rattle.page_word.specs.Word.{hasBit}
+use Rattle.page_word.specs.Fields.{withPart}
 use Rattle.port_state.specs.declared.Flags.{Flags}
 use Rattle.port_state.specs.declared.Device.{Device}
-use Rattle.port_state.specs.Memory.{Due, isOff, isUp}
-use Rattle.port_registers.specs.Registers.{registerOf, controlValue, statusBits, readDue, commanded, writeDue}
+use Rattle.port_state.specs.Memory.{isUp}
+use Rattle.port_state.specs.PageRegisters.{thirdOf}
+use Rattle.port_registers.specs.declared.Bank.the-variants.{Advertised, Partner}
+use Rattle.port_registers.specs.declared.Register.{Register}
+use Rattle.port_registers.specs.declared.Register.the-variants.{Control, Status, Part, Missing}
+use Rattle.port_registers.specs.Registers.{registerOf, controlValue, statusBits, readAt, readDue, restartsBy, commanded, writeAt, writeDue}
+use Rattle.port_registers.proofs.RegisterNumbers.{isStatus, status-number}
 use Rattle.promises.specs.TwoPasts.{shifted, without6And4}
-use Rattle.promises.proofs.ByRegister.{by-register}
-use Rattle.promises.proofs.Twins.{twin, Twins, Alike, twins-if, kept, saying-same}
+use Rattle.port_state.proofs.ClockAhead.{twin}
+use Rattle.promises.proofs.Twins.{Twins, Alike, twins-if, kept, saying-same}
 
 -- 7.513 without bits 6 and 4 has nothing of the flags.
 status-without : (received up fault latch : Bool)
     → without6And4 (registerValue (statusBits received up fault latch)) ≡ registerValue (statusBits false up false latch)
-unfolding without6And4 statusBits
+unfolding without6And4 withPart statusBits
 status-without true true true true = refl
 status-without true true true false = refl
 status-without true true false true = refl
@@ -41,57 +47,54 @@ module _ (δ : ℕ) (g : Flags) where
   pub status-says : (d : Device) → without6And4 (readDue 513 d .says) ≡ without6And4 (readDue 513 (twin δ g d) .says)
   unfolding readDue registerOf
   status-says d =
-      status-without (d .flags .received) (isUp (d .state)) (d .flags .fault) (d .talk .latch)
-      ∙ sym (status-without (g .received) (isUp (d .state)) (g .fault) (d .talk .latch))
+      status-without (d .lasting .flags .received) (isUp (d .state)) (d .lasting .flags .fault) (d .link .talk .latch)
+      ∙ sym (status-without (g .received) (isUp (d .state)) (g .fault) (d .link .talk .latch))
 
-  pub status-twins : (d : Device) → readDue 513 (twin δ g d) .device ≡ twin δ (readDue 513 d .device .flags) (readDue 513 d .device)
+  pub status-twins : (d : Device) → readDue 513 (twin δ g d) .device ≡ twin δ (readDue 513 d .device .lasting .flags) (readDue 513 d .device)
   unfolding readDue registerOf
   status-twins d = refl
 
   -- A read of any other register.
-  pub read-alike : (n : ℕ) (d : Device) → eqb n 513 ≡ false → Alike δ (d .flags) g (readDue n d) (readDue n (twin δ g d))
-  unfolding readDue registerOf
-  read-alike n d =
-      by-register (λ (m : ℕ). eqb m 513 ≡ false → Alike δ (d .flags) g (readDue m d) (readDue m (twin δ g d)))
-      (λ other. saying-same (registerValue (controlValue d)) kept)
-      (λ other. absurd (true≢false other))
-      (λ other. saying-same (registerValue (d .advertised .low)) kept)
-      (λ other. saying-same (registerValue (d .advertised .middle)) kept)
-      (λ other. saying-same (registerValue (d .advertised .high)) kept)
-      (λ other. saying-same (registerValue (d .partner .low)) kept)
-      (λ other. saying-same (registerValue (d .partner .middle)) kept)
-      (λ other. saying-same (registerValue (d .partner .high)) kept)
-      (λ m no other. rw (no .read d, no .read (twin δ g d)) (saying-same (refused Register) kept))
-      n
+  read-at : (r : Register) (d : Device) → isStatus r ≡ false → Alike δ (d .lasting .flags) g (readAt r d) (readAt r (twin δ g d))
+  read-at Control d other = saying-same (registerValue (controlValue d)) kept
+  read-at Status d other = absurd (true≢false other)
+  read-at (Part Advertised third) d other = saying-same (registerValue (thirdOf third (d .lasting .advertised))) kept
+  read-at (Part Partner third) d other = saying-same (registerValue (thirdOf third (d .link .partner))) kept
+  read-at Missing d other = saying-same (refused refusal.Register) kept
+
+  pub read-alike : (n : ℕ) (d : Device) → eqb n 513 ≡ false → Alike δ (d .lasting .flags) g (readDue n d) (readDue n (twin δ g d))
+  unfolding readDue
+  read-alike n d other = read-at (registerOf n) d (sym (status-number n) ∙ other)
 
   -- A write. A device that is made fresh has no flags; all else keeps them.
   command-twins : (value reading : ℕ) (d : Device)
-      → Twins δ (d .flags) g (commanded value reading d) (commanded value (shifted δ reading) (twin δ g d))
+      → Twins δ (d .lasting .flags) g (commanded value reading d) (commanded value (shifted δ reading) (twin δ g d))
   unfolding commanded
   command-twins value reading d =
       twins-if (hasBit value 15) (record { device = refl; flags = λ h. refl })
-      (twins-if (hasBit value 12) (twins-if (hasBit value 9 || isOff (d .state)) kept kept) kept)
+      (twins-if (hasBit value 12) (twins-if (restartsBy value (d .state)) kept kept) kept)
+
+  write-at : (r : Register) (value reading : ℕ) (d : Device)
+      → Alike δ (d .lasting .flags) g (writeAt r value reading d) (writeAt r value (shifted δ reading) (twin δ g d))
+  write-at Control value reading d = saying-same nothing (command-twins value reading d)
+  write-at Status value reading d = saying-same nothing kept
+  write-at (Part Advertised third) value reading d = saying-same nothing kept
+  write-at (Part Partner third) value reading d = saying-same nothing kept
+  write-at Missing value reading d = saying-same (refused refusal.Register) kept
 
   pub write-alike : (n value reading : ℕ) (d : Device)
-      → Alike δ (d .flags) g (writeDue n value reading d) (writeDue n value (shifted δ reading) (twin δ g d))
-  unfolding writeDue registerOf
-  write-alike n value reading d =
-      by-register (λ (m : ℕ). Alike δ (d .flags) g (writeDue m value reading d) (writeDue m value (shifted δ reading) (twin δ g d)))
-      (saying-same nothing (command-twins value reading d))
-      (saying-same nothing kept)
-      (saying-same nothing kept)
-      (saying-same nothing kept)
-      (saying-same nothing kept)
-      (saying-same nothing kept)
-      (saying-same nothing kept)
-      (saying-same nothing kept)
-      (λ m no. rw (no .write value reading d, no .write value (shifted δ reading) (twin δ g d)) (saying-same (refused Register) kept))
-      n
+      → Alike δ (d .lasting .flags) g (writeDue n value reading d) (writeDue n value (shifted δ reading) (twin δ g d))
+  unfolding writeDue
+  write-alike n value reading d = write-at (registerOf n) value reading d
 
 -- Where the flags are the same, every read answers the same.
-pub read-same : (δ n : ℕ) (d : Device) → readDue n d .says ≡ readDue n (twin δ (d .flags) d) .says
-unfolding readDue registerOf
-read-same δ n d =
-    by-register (λ (m : ℕ). readDue m d .says ≡ readDue m (twin δ (d .flags) d) .says) refl refl refl refl refl refl refl refl
-    (λ m no. ap (λ (x : Due). x .says) (no .read d) ∙ sym (ap (λ (x : Due). x .says) (no .read (twin δ (d .flags) d))))
-    n
+same-at : (δ : ℕ) (r : Register) (d : Device) → readAt r d .says ≡ readAt r (twin δ (d .lasting .flags) d) .says
+same-at δ Control d = refl
+same-at δ Status d = refl
+same-at δ (Part Advertised third) d = refl
+same-at δ (Part Partner third) d = refl
+same-at δ Missing d = refl
+
+pub read-same : (δ n : ℕ) (d : Device) → readDue n d .says ≡ readDue n (twin δ (d .lasting .flags) d) .says
+unfolding readDue
+read-same δ n d = same-at δ (registerOf n) d

@@ -15,7 +15,7 @@ use Rattle.port_timing.specs.Timers.{lowSpeed}
 use Rattle.port_step.specs.declared.events.Event.{Event}
 use Rattle.port_step.specs.Steps.{stepDue, saysTo, afterAll}
 use Rattle.promises.specs.TwoPasts.{shiftedBy, without6And4, readsStatus, compared, statusWasRead, comparedValue, orderedPages, Same}
-use Rattle.promises.proofs.Twins.{twin}
+use Rattle.port_state.proofs.ClockAhead.{twin}
 use Rattle.promises.proofs.TwinRegisters.{status-says, read-alike, read-same}
 use Rattle.promises.proofs.TwinSteps.{reads-shifted, step-alike, StatusRead, step-status, step-exactly}
 
@@ -54,7 +54,7 @@ pages-more s s′ rest rest′ same more =
     ap₂ (λ (x : Said) (pages : List ℕ). cond (eqb (x .kind) 0x81) (x .value ∷ pages) pages) same more
 
 -- The same flags: the same answers,
-pub exact-says : (δ : ℕ) (later : List Event) (d : Device) → saysTo d later ≡ saysTo (twin δ (d .flags) d) (map (shiftedBy δ) later)
+pub exact-says : (δ : ℕ) (later : List Event) (d : Device) → saysTo d later ≡ saysTo (twin δ (d .lasting .flags) d) (map (shiftedBy δ) later)
 unfolding saysTo
 exact-says δ [] d = refl
 exact-says δ (e ∷ later) d =
@@ -66,7 +66,7 @@ exact-says δ (e ∷ later) d =
 
 -- and the device afterwards is the twin with the same flags.
 pub exact-after : (δ : ℕ) (later : List Event) (d : Device)
-    → afterAll (twin δ (d .flags) d) (map (shiftedBy δ) later) ≡ twin δ (afterAll d later .flags) (afterAll d later)
+    → afterAll (twin δ (d .lasting .flags) d) (map (shiftedBy δ) later) ≡ twin δ (afterAll d later .flags) (afterAll d later)
 unfolding afterAll
 exact-after δ [] d = refl
 exact-after δ (e ∷ later) d =
@@ -75,7 +75,7 @@ exact-after δ (e ∷ later) d =
 
 -- So every register reads the same.
 pub exact-value : (δ : ℕ) (later : List Event) (d : Device) (n : ℕ)
-    → readDue n (afterAll d later) .says ≡ readDue n (afterAll (twin δ (d .flags) d) (map (shiftedBy δ) later)) .says
+    → readDue n (afterAll d later) .says ≡ readDue n (afterAll (twin δ (d .lasting .flags) d) (map (shiftedBy δ) later)) .says
 exact-value δ later d n =
     read-same δ n (afterAll d later) ∙ ap (λ (y : Device). readDue n y .says) (sym (exact-after δ later d))
 
@@ -151,4 +151,4 @@ same-runs δ (e ∷ later) g d = by-event (readsStatus e) refl (λ (h : Flags) (
         let y = stepDue (shiftedBy δ e) (twin δ g d) in
         let step = step-alike lowSpeed rateOrder δ g e d other in
         one-more e (shiftedBy δ e) later (map (shiftedBy δ) later) d (twin δ g d) other (reads-shifted δ e ∙ other) (step .says)
-        (subst (λ (z : Device). Same (x .device) later z (map (shiftedBy δ) later)) (sym (step .devices .device)) (rest (y .device .flags) (x .device)))
+        (subst (λ (z : Device). Same (x .device) later z (map (shiftedBy δ) later)) (sym (step .devices .device)) (rest (y .device .lasting .flags) (x .device)))

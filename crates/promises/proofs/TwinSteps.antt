@@ -14,7 +14,8 @@ use Rattle.port_step.specs.declared.events.Event.{Event}
 use Rattle.port_step.specs.declared.events.Event.the-variants.{Edge, Tick, Sent, Report, Read, Write, Unnamed}
 use Rattle.port_step.specs.Steps.{stepOver}
 use Rattle.promises.specs.TwoPasts.{shiftedBy, readsStatus, without6And4}
-use Rattle.promises.proofs.Twins.{twin, Alike, kept, saying-same}
+use Rattle.port_state.proofs.ClockAhead.{twin}
+use Rattle.promises.proofs.Twins.{Alike, kept, saying-same}
 use Rattle.promises.proofs.TwinEdges.{edge-alike}
 use Rattle.promises.proofs.TwinTicks.{tick-alike, sent-alike, report-alike}
 use Rattle.promises.proofs.TwinRegisters.{status-says, status-twins, read-alike, read-same, write-alike}
@@ -32,7 +33,7 @@ reads-shifted δ Unnamed = refl
 module _ (p : Profile) (order : List ℕ) (δ : ℕ) where
   -- Any event but a read of 7.513: the same is said, and they stay twins.
   pub step-alike : (g : Flags) (e : Event) (d : Device) → readsStatus e ≡ false
-      → Alike δ (d .flags) g (stepOver p order e d) (stepOver p order (shiftedBy δ e) (twin δ g d))
+      → Alike δ (d .lasting .flags) g (stepOver p order e d) (stepOver p order (shiftedBy δ e) (twin δ g d))
   unfolding stepOver
   step-alike g (Edge reading) d other = edge-alike δ g reading (p .mode) d
   step-alike g (Tick reading draw) d other = tick-alike δ g reading p draw d
@@ -47,7 +48,7 @@ module _ (p : Profile) (order : List ℕ) (δ : ℕ) where
     pub says : without6And4 (x .says) ≡ without6And4 (y .says)
     pub kind : x .says .kind ≡ 0x83
     pub kind′ : y .says .kind ≡ 0x83
-    pub devices : y .device ≡ twin δ (x .device .flags) (x .device)
+    pub devices : y .device ≡ twin δ (x .device .lasting .flags) (x .device)
 
   read-513 : (g : Flags) (d : Device) → StatusRead (readDue 513 d) (readDue 513 (twin δ g d))
   unfolding readDue registerOf
@@ -68,7 +69,7 @@ module _ (p : Profile) (order : List ℕ) (δ : ℕ) where
   -- Where the flags are the same, whatever the event, all is.
   pub record Exactly (x y : Due) : Type 0 where
     pub says : x .says ≡ y .says
-    pub devices : y .device ≡ twin δ (x .device .flags) (x .device)
+    pub devices : y .device ≡ twin δ (x .device .lasting .flags) (x .device)
 
   from-alike : (f : Flags) (x y : Due) → Alike δ f f x y → Exactly x y
   from-alike f x y a =
@@ -78,14 +79,14 @@ module _ (p : Profile) (order : List ℕ) (δ : ℕ) where
       }
 
   status-exactly : (reading register : ℕ) (d : Device) → readsStatus (Read reading register) ≡ true
-      → Exactly (stepOver p order (Read reading register) d) (stepOver p order (shiftedBy δ (Read reading register)) (twin δ (d .flags) d))
+      → Exactly (stepOver p order (Read reading register) d) (stepOver p order (shiftedBy δ (Read reading register)) (twin δ (d .lasting .flags) d))
   unfolding stepOver
   status-exactly reading register d it =
-      record { says = read-same δ register d; devices = step-status (d .flags) (Read reading register) d it .devices }
+      record { says = read-same δ register d; devices = step-status (d .lasting .flags) (Read reading register) d it .devices }
 
   step-if : (t : Bool) (e : Event) (d : Device) → readsStatus e ≡ t
-      → Exactly (stepOver p order e d) (stepOver p order (shiftedBy δ e) (twin δ (d .flags) d))
-  step-if false e d other = from-alike (d .flags) _ _ (step-alike (d .flags) e d other)
+      → Exactly (stepOver p order e d) (stepOver p order (shiftedBy δ e) (twin δ (d .lasting .flags) d))
+  step-if false e d other = from-alike (d .lasting .flags) _ _ (step-alike (d .lasting .flags) e d other)
   step-if true (Edge reading) d it = absurd (false≢true it)
   step-if true (Tick reading draw) d it = absurd (false≢true it)
   step-if true (Sent reading) d it = absurd (false≢true it)
@@ -94,5 +95,5 @@ module _ (p : Profile) (order : List ℕ) (δ : ℕ) where
   step-if true (Write reading register value) d it = absurd (false≢true it)
   step-if true Unnamed d it = absurd (false≢true it)
 
-  pub step-exactly : (e : Event) (d : Device) → Exactly (stepOver p order e d) (stepOver p order (shiftedBy δ e) (twin δ (d .flags) d))
+  pub step-exactly : (e : Event) (d : Device) → Exactly (stepOver p order e d) (stepOver p order (shiftedBy δ e) (twin δ (d .lasting .flags) d))
   step-exactly e d = step-if (readsStatus e) e d refl

@@ -1,29 +1,30 @@
 -- Ticks, pages sent and link reports: a device and its twin say the same and stay twins. Each test on a timer comes out the same, since the time
 -- between two readings is the same if both are later by δ.
-use Prim.Native.Nat.{ℕ}
+use Prim.Native.Nat.{ℕ, _+_}
 use mathlib.Core.Path.{_≡_, refl, ap, ap₂, _∙_}
 use mathlib.Core.Bool.{Bool, cond, not, _&&_}
 use mathlib.Core.List.{List}
 use lib.Dec.{leb, ltb}
-use Rattle.answers.specs.Answers.{said, nothing, refused, pageOrdered}
+use Rattle.answers.specs.Answers.{nothing, refused, pageOrdered}
 use Rattle.answers.specs.declared.Refusal.the-variants.{Turn}
-use Rattle.page_resolve.specs.Resolving.{resolutionOf}
+use Rattle.page_resolve.specs.Resolving.{resolutionOf, saidOf}
 use Rattle.line_reader.specs.declared.reader.Reader.{Reader}
 use Rattle.line_reader.specs.declared.reader.Reader.the-variants.{Fresh, Open, Dropping}
 use Rattle.line_reader.proofs.ClockShift.{later, time-shifted}
 use Rattle.port_state.specs.declared.State.{State}
 use Rattle.port_state.specs.declared.State.the-variants.{Off, Break, Ability, Ack, Complete, CheckLink, Up}
 use Rattle.port_state.specs.declared.Flags.{Flags}
-use Rattle.port_state.specs.declared.Talk.{Talk}
+use Rattle.port_state.specs.declared.Link.{Link}
 use Rattle.port_state.specs.declared.Device.{Device}
-use Rattle.port_state.specs.Memory.{withState}
+use Rattle.port_state.specs.Changes.{withState}
 use Rattle.port_timing.specs.declared.profile.Profile.{Profile}
 use Rattle.port_timing.specs.OwnPages.{echoingPage}
 use Rattle.port_timing.specs.Timers.{runOut, inhibitOf}
 use Rattle.port_timing.specs.Ticks.{holdsBack, mayOrder, orders, tickIn, tickDue}
 use Rattle.port_timing.specs.Sending.{counted, sentIn, sentDue}
 use Rattle.port_timing.specs.Reports.{hasRate, reportIn, reportDue}
-use Rattle.promises.proofs.Twins.{talkIn, twin, Twins, Alike, twins-if, alike-if, twins-by, alike-by, kept, saying-same}
+use Rattle.port_state.proofs.ClockAhead.{linkIn, twin}
+use Rattle.promises.proofs.Twins.{Twins, Alike, twins-if, alike-if, twins-by, alike-by, kept, saying-same}
 use Rattle.promises.specs.TwoPasts.{shifted}
 
 module _ (δ : ℕ) (g : Flags) (reading : ℕ) where
@@ -37,79 +38,78 @@ module _ (δ : ℕ) (g : Flags) (reading : ℕ) where
   holds-back-later quiet (Dropping last) = refl
 
   -- So a page is ordered at both or at neither; in Ability, Ack and Complete both times are later by δ.
-  may-order-later : (p : Profile) (t : Talk) (r : Reader)
-      → mayOrder p (shifted δ reading) (talkIn Ability δ t) (later δ r) ≡ mayOrder p reading t r
+  may-order-later : (p : Profile) (l : Link) → mayOrder p (shifted δ reading) (linkIn Ability δ l) ≡ mayOrder p reading l
   unfolding mayOrder
-  may-order-later p t r =
-      ap₂ (λ (held ran : Bool). not (t .out) && (not held && ran))
-      (holds-back-later (p .mode .quiet) r)
-      (run-out-later (cond (t .heard) (p .silent) (p .wait)) (t .mark))
+  may-order-later p l =
+      ap₂ (λ (held ran : Bool). not (l .talk .out) && (not held && ran))
+      (holds-back-later (p .mode .quiet) (l .reader))
+      (run-out-later (cond (l .talk .heard) (p .silent) (p .wait)) (l .talk .mark))
 
   -- A page is ordered, in a state whose times are later by δ.
-  ordered : (p : Profile) (word : ℕ) (s : State) (d : Device) → talkIn s δ (d .talk) ≡ talkIn Ability δ (d .talk)
-      → Alike δ (d .flags) g (orders p reading word (withState s d)) (orders p (shifted δ reading) word (twin δ g (withState s d)))
+  ordered : (p : Profile) (word : ℕ) (s : State) (d : Device) → linkIn s δ (d .link) ≡ linkIn Ability δ (d .link)
+      → Alike δ (d .lasting .flags) g (orders p reading word (withState s d)) (orders p (shifted δ reading) word (twin δ g (withState s d)))
   unfolding orders
   ordered p word s d times =
-      alike-by (mayOrder p reading (d .talk) (d .reader)) (mayOrder p (shifted δ reading) (talkIn s δ (d .talk)) (later δ (d .reader)))
-      (ap (λ (t : Talk). mayOrder p (shifted δ reading) t (later δ (d .reader))) times ∙ may-order-later p (d .talk) (d .reader))
+      alike-by (mayOrder p reading (d .link)) (mayOrder p (shifted δ reading) (linkIn s δ (d .link)))
+      (ap (mayOrder p (shifted δ reading)) times ∙ may-order-later p (d .link))
       (saying-same (pageOrdered word) kept)
       (saying-same nothing kept)
 
   tick-in : (s : State) (p : Profile) (draw : ℕ) (d : Device)
-      → Alike δ (d .flags) g (tickIn s p reading draw (withState s d)) (tickIn s p (shifted δ reading) draw (twin δ g (withState s d)))
+      → Alike δ (d .lasting .flags) g (tickIn s p reading draw (withState s d)) (tickIn s p (shifted δ reading) draw (twin δ g (withState s d)))
   tick-in Off p draw d = saying-same nothing kept
   tick-in Break p draw d =
       saying-same nothing
-      (twins-by (runOut (p .breaking) (d .talk .timer) reading) (runOut (p .breaking) (shifted δ (d .talk .timer)) (shifted δ reading))
-      (run-out-later (p .breaking) (d .talk .timer))
+      (twins-by (runOut (p .breaking) (d .link .talk .timer) reading) (runOut (p .breaking) (shifted δ (d .link .talk .timer)) (shifted δ reading))
+      (run-out-later (p .breaking) (d .link .talk .timer))
       kept
       kept)
-  tick-in Ability p draw d = ordered p (d .talk .own) Ability d refl
-  tick-in Ack p draw d = ordered p (echoingPage (d .talk .own) (d .talk .held)) Ack d refl
-  tick-in Complete p draw d = ordered p (echoingPage (d .talk .own) (d .talk .held)) Complete d refl
+  tick-in Ability p draw d = ordered p (d .link .talk .own) Ability d refl
+  tick-in Ack p draw d = ordered p (echoingPage (d .link .talk .own) (d .link .talk .held)) Ack d refl
+  tick-in Complete p draw d = ordered p (echoingPage (d .link .talk .own) (d .link .talk .held)) Complete d refl
   tick-in CheckLink p draw d =
-      let number = inhibitOf (d .outcome) in
+      let number = inhibitOf (d .link .outcome) in
       saying-same nothing
-      (twins-by (runOut number (d .talk .timer) reading) (runOut number (shifted δ (d .talk .timer)) (shifted δ reading))
-      (run-out-later number (d .talk .timer))
+      (twins-by (runOut number (d .link .talk .timer) reading) (runOut number (shifted δ (d .link .talk .timer)) (shifted δ reading))
+      (run-out-later number (d .link .talk .timer))
       kept
       kept)
   tick-in Up p draw d = saying-same nothing kept
 
-  pub tick-alike : (p : Profile) (draw : ℕ) (d : Device) → Alike δ (d .flags) g (tickDue p reading draw d) (tickDue p (shifted δ reading) draw (twin δ g d))
+  pub tick-alike : (p : Profile) (draw : ℕ) (d : Device) → Alike δ (d .lasting .flags) g (tickDue p reading draw d) (tickDue p (shifted δ reading) draw (twin δ g d))
   unfolding tickDue
   tick-alike p draw d = tick-in (d .state) p draw d
 
   -- A page sent.
   sent-in : (s : State) (order : List ℕ) (d : Device)
-      → Alike δ (d .flags) g (sentIn s order reading (withState s d)) (sentIn s order (shifted δ reading) (twin δ g (withState s d)))
+      → Alike δ (d .lasting .flags) g (sentIn s order reading (withState s d)) (sentIn s order (shifted δ reading) (twin δ g (withState s d)))
   unfolding counted
   sent-in Off order d = saying-same (refused Turn) kept
   sent-in Break order d = saying-same (refused Turn) kept
-  sent-in Ability order d = alike-if (d .talk .out) (saying-same nothing kept) (saying-same (refused Turn) kept)
-  sent-in Ack order d = alike-if (d .talk .out) (saying-same nothing kept) (saying-same (refused Turn) kept)
+  sent-in Ability order d = alike-if (d .link .talk .out) (saying-same nothing kept) (saying-same (refused Turn) kept)
+  sent-in Ack order d = alike-if (d .link .talk .out) (saying-same nothing kept) (saying-same (refused Turn) kept)
   sent-in Complete order d =
-      alike-if (d .talk .out)
-      (alike-if (leb 2 (d .talk .count)) (saying-same (said (resolutionOf order (d .talk .own) (d .talk .held))) kept) (saying-same nothing kept))
+      alike-if (d .link .talk .out)
+      (alike-if (leb 3 (d .link .talk .count + 1)) (saying-same (saidOf (resolutionOf order (d .link .talk .own) (d .link .talk .held))) kept) (saying-same nothing kept))
       (saying-same (refused Turn) kept)
-  sent-in CheckLink order d = alike-if (d .talk .out) (saying-same nothing kept) (saying-same (refused Turn) kept)
-  sent-in Up order d = alike-if (d .talk .out) (saying-same nothing kept) (saying-same (refused Turn) kept)
+  sent-in CheckLink order d = alike-if (d .link .talk .out) (saying-same nothing kept) (saying-same (refused Turn) kept)
+  sent-in Up order d = alike-if (d .link .talk .out) (saying-same nothing kept) (saying-same (refused Turn) kept)
 
-  pub sent-alike : (order : List ℕ) (d : Device) → Alike δ (d .flags) g (sentDue order reading d) (sentDue order (shifted δ reading) (twin δ g d))
+  pub sent-alike : (order : List ℕ) (d : Device) → Alike δ (d .lasting .flags) g (sentDue order reading d) (sentDue order (shifted δ reading) (twin δ g d))
   unfolding sentDue
   sent-alike order d = sent-in (d .state) order d
 
   -- A link report.
   report-in : (s : State) (up : Bool) (d : Device)
-      → Twins δ (d .flags) g (reportIn s up reading (withState s d)) (reportIn s up (shifted δ reading) (twin δ g (withState s d)))
+      → Twins δ (d .lasting .flags) g (reportIn s up reading (withState s d)) (reportIn s up (shifted δ reading) (twin δ g (withState s d)))
   report-in Off up d = kept
   report-in Break up d = kept
   report-in Ability up d = kept
   report-in Ack up d = kept
   report-in Complete up d = kept
-  report-in CheckLink up d = twins-if up (twins-if (hasRate (d .outcome)) kept kept) kept
+  report-in CheckLink up d = twins-if up (twins-if (hasRate (d .link .outcome)) kept kept) kept
   report-in Up up d = twins-if up kept kept
 
-  pub report-alike : (up : Bool) (d : Device) → Alike δ (d .flags) g (reportDue up reading d) (reportDue up (shifted δ reading) (twin δ g d))
+  pub report-alike : (up : Bool) (d : Device) → Alike δ (d .lasting .flags) g (reportDue up reading d) (reportDue up (shifted δ reading) (twin δ g d))
   unfolding reportDue
   report-alike up d = saying-same nothing (report-in (d .state) up d)

@@ -2,7 +2,7 @@
 -- 7.513, "Page received" and "Remote fault", until they are read.
 use Prim.Native.Nat.{ℕ, _^_}
 use mathlib.Core.List.{List, [], _∷_}
-use Rattle.port_state.specs.declared.PageRegisters.{PageRegisters}
+use Rattle.port_state.specs.declared.page_registers.PageRegisters.{PageRegisters}
 use Rattle.port_state.specs.Memory.{freshDevice}
 use Rattle.port_step.specs.declared.events.Event.{Event}
 use Rattle.port_step.specs.declared.events.Event.the-variants.{Write}
@@ -20,4 +20,4 @@ switchedOn reading a =
 abbrev pub AsIfNew : Type 0
 AsIfNew =
     (m : Module) (later : List Event)
-    → Same (deviceOf m) later (afterAll freshDevice (switchedOn (readingOf (m .entry)) (deviceOf m .advertised))) later
+    → Same (deviceOf m) later (afterAll freshDevice (switchedOn (readingOf (m .entry)) (deviceOf m .lasting .advertised))) later

@@ -4,12 +4,13 @@ use Prim.Native.Nat.{ℕ, _^_}
 use mathlib.Core.Path.{_≡_}
 use mathlib.Core.Bool.{true, false}
 use mathlib.Core.List.{List, [], _∷_, _++_, map}
-use Rattle.answers.specs.declared.Answer.the-variants.{Settled}
+use Rattle.page_resolve.specs.declared.resolving.Resolution.the-variants.{Settled}
 use Rattle.answers.specs.Answers.{spoken, pageRead, pageOrdered, settledOn, registerValue}
 use Rattle.line_mode.specs.Modes.{lsmMode}
 use Rattle.line_writer.specs.Transitions.{readings}
 use Rattle.port_state.specs.declared.State.{State}
 use Rattle.port_state.specs.declared.State.the-variants.{Off, Break, Ability, Ack, Complete, CheckLink, Up}
+use Rattle.port_state.specs.declared.Outcome.the-variants.{Resolved}
 use Rattle.port_state.specs.Memory.{freshDevice}
 use Rattle.port_step.specs.declared.events.Event.{Event}
 use Rattle.port_step.specs.declared.events.Event.the-variants.{Edge, Tick, Sent, Report, Read, Write}
@@ -62,7 +63,7 @@ pub record FirstLink : Type 0 where
   pub ack : stateAfter toAck ≡ Ack
   pub complete : stateAfter toComplete ≡ Complete
   pub check-link : stateAfter toCheckLink ≡ CheckLink
-  pub outcome : afterAll freshDevice toCheckLink .outcome ≡ Settled 2 false
+  pub outcome : afterAll freshDevice toCheckLink .link .outcome ≡ Resolved (Settled 2 false)
   pub up : stateAfter toUp ≡ Up
   pub says : spoken (saysTo freshDevice (toUp ++ reads))
       ≡ pageRead 0xA90001 ∷ pageRead 0xA940A1 ∷ pageOrdered 0x854121 ∷ pageOrdered 0x854121 ∷ pageOrdered 0x854121 ∷ settledOn 2 false ∷ registerValue 0x68

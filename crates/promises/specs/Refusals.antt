@@ -4,23 +4,24 @@ use mathlib.Core.Path.{_≡_}
 use mathlib.Core.Bool.{true, false}
 use mathlib.Core.List.{List, [], _∷_, _++_, map}
 use lib.ListN.{replicate}
-use Rattle.answers.specs.Answers.{Said, refused, pageRead, pageOrdered, spoken}
+use Rattle.answers.specs.Answers.{Said, refused, pageRead, pageOrdered, spoken, kept}
 use Rattle.answers.specs.declared.Refusal.{Refusal}
 use Rattle.answers.specs.declared.Refusal.the-variants.{Gap, Cut, Check, Selector, Tie, Changed, Echo, None, Roles, Register, Turn, Room, Wide, Mode}
 use Rattle.page_word.specs.Word.{bitsOf}
 use Rattle.line_mode.specs.Modes.{lsmMode}
 use Rattle.line_writer.specs.Transitions.{hasTransition, positionsTo, readingAt}
-use Rattle.line_writer.specs.Writing.{writeSays, writeLeaves}
+use Rattle.line_writer.specs.Writing.{writeOf}
 use Rattle.line_reader.specs.declared.reader.Reader.{Reader}
 use Rattle.line_reader.specs.declared.reader.Reader.the-variants.{Open, Dropping}
 use Rattle.line_captures.specs.Captures.{saidOfRead, readOf}
 use Rattle.port_state.specs.declared.State.{State}
 use Rattle.port_state.specs.declared.State.the-variants.{Break, Ability, CheckLink}
-use Rattle.port_state.specs.Memory.{freshDevice, withReader}
+use Rattle.port_state.specs.Memory.{freshDevice}
+use Rattle.port_state.specs.Changes.{withReader}
 use Rattle.port_step.specs.declared.events.Event.{Event}
 use Rattle.port_step.specs.declared.events.Event.the-variants.{Edge, Tick, Sent, Report, Read, Write}
 use Rattle.port_step.specs.Steps.{stepDue, saysTo, afterAll}
-use Rattle.port_step.specs.Runs.{runSays, runLeaves}
+use Rattle.port_step.specs.Runs.{runOf}
 use Rattle.bench_listing.specs.Words.{text}
 use Rattle.bench_listing.specs.Listing.{listing}
 use Rattle.promises.specs.FirstLink.{pageFrom, toBreak, toAbility, toAck, threeSent, stateAfter}
@@ -33,7 +34,7 @@ pub record Run (events : List Event) (says : List Said) (state : State) : Type 0
 -- Of an attempt that is refused in Ability: what is said, "attempt ended; state as above", and the reader that is left.
 pub record Ended (events : List Event) (refusal : Refusal) (reader : Reader) : Type 0 where
   pub run : Run events (refused refusal ∷ []) Ability
-  pub left : afterAll freshDevice events .reader ≡ reader
+  pub left : afterAll freshDevice events .link .reader ≡ reader
 
 -- One more event after others: it is refused with this number, and the device is kept as it was, all of it.
 pub record Kept (past : List Event) (event : Event) (refusal : Refusal) : Type 0 where
@@ -41,21 +42,19 @@ pub record Kept (past : List Event) (event : Event) (refusal : Refusal) : Type 0
   pub kept : stepDue event (afterAll freshDevice past) .device ≡ afterAll freshDevice past
 
 -- A write call, with 0 as the first reading: refused with this number, "list kept".
-pub record ListKept (mode : ℕ) (list : List ℕ) (place word : ℕ) (refusal : Refusal) : Type 0 where
-  pub says : writeSays mode list place word ≡ refused refusal
-  pub kept : writeLeaves mode list place word 0 ≡ list
+abbrev pub ListKept : (mode : ℕ) (list : List ℕ) (place word : ℕ) → Refusal → Type 0
+ListKept mode list place word refusal = writeOf mode list place word 0 ≡ kept refusal list
 
 -- A run call: refused with this number, and the list for its answers kept.
-pub record RunKept (events answers : List ℕ) (refusal : Refusal) : Type 0 where
-  pub says : runSays events answers ≡ refused refusal
-  pub kept : runLeaves events answers ≡ answers
+abbrev pub RunKept : (events answers : List ℕ) → Refusal → Type 0
+RunKept events answers refusal = runOf events answers ≡ kept refusal answers
 
 -- A word's page, but with sixteen zeros where its check bits belong.
 abbrev pub pageUnchecked : ℕ → ℕ → List Event
 pageUnchecked reading word =
     map Edge
     (map (readingAt (lsmMode .spacing) reading)
-    (positionsTo (hasTransition (lsmMode .slow) (bitsOf 48 word ++ replicate 16 false)) 157))
+    (positionsTo (hasTransition lsmMode (bitsOf 48 word ++ replicate 16 false)) 157))
 
 -- As in the first link, but with these values in 514 and 515 and this page from the partner, which comes again with Ack 1 and the own nonce, 5, echoed;
 -- three pages are sent, and then the link comes up.

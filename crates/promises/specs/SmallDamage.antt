@@ -1,23 +1,25 @@
 -- What the check bits are, without the steps of a division, and what they are worth: no small damage to a page makes another page of it.
 use Prim.Native.Nat.{ℕ, zero, suc, _+_, _%_, _^_, _<_, _≤_}
 use mathlib.Core.Path.{_≡_}
-use mathlib.Core.Bool.{Bool, false, cond, xor}
+use mathlib.Core.Bool.{Bool, false, xor}
 use mathlib.Core.List.{List, [], _∷_, _++_}
 use lib.ListN.{length, replicate}
+use Rattle.answers.specs.Choices.{if_then_else_}
 use Rattle.page_word.specs.Word.{bitsOf}
 use Rattle.page_check_bits.specs.CheckBits.{plus, generator, checkList}
-use Rattle.line_mode.specs.Delimiters.{among}
+use Rattle.page_word.specs.Lists.{among}
+use Rattle.line_mode.specs.declared.modes.LineMode.{LineMode}
 use Rattle.line_writer.specs.Transitions.{transitions}
 
 -- A polynomial times x^16 + x^15 + x^2 + 1: the divisor added in once at the power of each coefficient that is one.
 abbrev pub multipleBy : List Bool → List Bool
 multipleBy [] = replicate 16 false
-multipleBy (b ∷ q) = plus (cond b generator []) (false ∷ multipleBy q)
+multipleBy (b ∷ q) = plus (if b then generator else []) (false ∷ multipleBy q)
 
 -- In how many of the positions below n two pages differ: how many transitions are lost or added to make the one of the other.
-unfoldable pub changedBelow : ℕ → List ℕ → List ℕ → ℕ
+unfoldable pub changedBelow : (n : ℕ) (page other : List ℕ) → ℕ
 changedBelow zero page other = 0
-changedBelow (suc p) page other = cond (xor (among p page) (among p other)) 1 0 + changedBelow p page other
+changedBelow (suc p) page other = (if xor (among p page) (among p other) then 1 else 0) + changedBelow p page other
 
 -- Two pages that differ in an even number of their 157 positions, in four at least, and not only within 32 neighbouring ones. So the one has not become
 -- the other by a change of up to three positions, of an odd number of them, or within 32 neighbouring ones.
@@ -32,5 +34,5 @@ pub record SmallDamage : Type 0 where
   pub divides : (w : ℕ) → (q : List Bool) × (multipleBy q ≡ bitsOf 48 w ++ checkList w)
   -- and no other sixteen bits make them one.
   pub no-other : (w : ℕ) (q bits : List Bool) → length bits ≡ 16 → multipleBy q ≡ bitsOf 48 w ++ bits → bits ≡ checkList w
-  -- The pages of two different words, with either delimiter.
-  pub apart : (slow : Bool) (w v : ℕ) → w < 2 ^ 48 → v < 2 ^ 48 → (w ≡ v → ⊥) → FarApart (transitions slow w) (transitions slow v)
+  -- The pages of two different words, in any mode.
+  pub apart : (mode : LineMode) (w v : ℕ) → w < 2 ^ 48 → v < 2 ^ 48 → (w ≡ v → ⊥) → FarApart (transitions mode w) (transitions mode v)

@@ -1,13 +1,14 @@
 -- The customer's demand 3: "No page outlives its link. Two modules with any two pasts, each just gone into Break, with the same advertisement
 -- registers, given the same later events and draws (the second's clock readings shifted by the difference of the entry readings modulo 2^32), give
 -- the same answers, register values and ordered pages; only bits 6 and 4 of 7.513 may differ, up to and with its first read."
-use Prim.Native.Nat.{ℕ, _+_, _*_, _/_, _%_, _^_}
+use Prim.Native.Nat.{ℕ, _+_, _%_, _^_}
 use mathlib.Core.Path.{_≡_}
-use mathlib.Core.Bool.{Bool, true, false, cond, not, _&&_, _||_}
+use mathlib.Core.Bool.{Bool, true, false, not, _&&_, _||_}
 use mathlib.Core.List.{List, [], _∷_, map}
-use lib.Dec.{eqb}
+use Rattle.answers.specs.Choices.{if_then_else_, _=?_}
 use Rattle.answers.specs.Answers.{Said, saying}
 use Rattle.page_word.specs.Word.{hasBit}
+use Rattle.page_word.specs.Fields.{withPart}
 use Rattle.line_mode.specs.Clock.{timeBetween}
 use Rattle.port_state.specs.declared.State.{State}
 use Rattle.port_state.specs.declared.State.the-variants.{Off, Break, Ability, Ack, Complete, CheckLink, Up}
@@ -35,7 +36,7 @@ restarts (Tick reading draw) = false
 restarts (Sent reading) = false
 restarts (Report reading up) = false
 restarts (Read reading register) = false
-restarts (Write reading register value) = eqb register 512 && (hasBit value 12 && hasBit value 9)
+restarts (Write reading register value) = register =? 512 && (hasBit value 12 && hasBit value 9)
 restarts Unnamed = false
 
 -- "each just gone into Break": the device is in Break after the event, and was not before it, or the event restarts it there.
@@ -63,15 +64,15 @@ readingOf (Write reading register value) = reading
 readingOf Unnamed = 0
 
 -- "the difference of the entry readings modulo 2^32"
-abbrev pub difference : Module → Module → ℕ
+abbrev pub difference : (first second : Module) → ℕ
 difference first second = timeBetween (readingOf (second .entry)) (readingOf (first .entry))
 
 -- A clock reading "shifted by the difference", modulo 2^32.
-abbrev pub shifted : ℕ → ℕ → ℕ
+abbrev pub shifted : (δ reading : ℕ) → ℕ
 shifted δ reading = (reading + δ) % 2 ^ 32
 
 -- "the same later events and draws (the second's clock readings shifted by ..)": nothing but the reading changes.
-abbrev pub shiftedBy : ℕ → Event → Event
+abbrev pub shiftedBy : (δ : ℕ) → Event → Event
 shiftedBy δ (Edge reading) = Edge (shifted δ reading)
 shiftedBy δ (Tick reading draw) = Tick (shifted δ reading) draw
 shiftedBy δ (Sent reading) = Sent (shifted δ reading)
@@ -80,9 +81,9 @@ shiftedBy δ (Read reading register) = Read (shifted δ reading) register
 shiftedBy δ (Write reading register value) = Write (shifted δ reading) register value
 shiftedBy δ Unnamed = Unnamed
 
--- "only bits 6 and 4 of 7.513 may differ": an answer whose value is taken without these two.
+-- "only bits 6 and 4 of 7.513 may differ": an answer whose value is taken with these two bits 0.
 unfoldable pub without6And4 : Said → Said
-without6And4 s = saying (s .kind) (s .value % 2 ^ 4 + (((s .value / 2 ^ 5) % 2) * 2 ^ 5 + (s .value / 2 ^ 7) * 2 ^ 7))
+without6And4 s = saying (s .kind) (withPart 6 1 0 (withPart 4 1 0 (s .value)))
 
 -- Whether an event is a read of 7.513.
 abbrev pub readsStatus : Event → Bool
@@ -90,7 +91,7 @@ readsStatus (Edge reading) = false
 readsStatus (Tick reading draw) = false
 readsStatus (Sent reading) = false
 readsStatus (Report reading up) = false
-readsStatus (Read reading register) = eqb register 513
+readsStatus (Read reading register) = register =? 513
 readsStatus (Write reading register value) = false
 readsStatus Unnamed = false
 
@@ -99,7 +100,7 @@ readsStatus Unnamed = false
 unfoldable pub compared : List Event → List Said → List Said
 compared [] says = says
 compared (e ∷ later) [] = []
-compared (e ∷ later) (s ∷ rest) = cond (readsStatus e) (without6And4 s ∷ rest) (s ∷ compared later rest)
+compared (e ∷ later) (s ∷ rest) = if readsStatus e then without6And4 s ∷ rest else s ∷ compared later rest
 
 -- Whether 7.513 is read in a row of events.
 unfoldable pub statusWasRead : List Event → Bool
@@ -107,13 +108,13 @@ statusWasRead [] = false
 statusWasRead (e ∷ later) = readsStatus e || statusWasRead later
 
 -- "register values": what a read of a register would answer after all events, whole but for 7.513 if it has not been read.
-unfoldable pub comparedValue : List Event → ℕ → Said → Said
-comparedValue later register value = cond (eqb register 513 && not (statusWasRead later)) (without6And4 value) value
+unfoldable pub comparedValue : List Event → (register : ℕ) → Said → Said
+comparedValue later register value = if register =? 513 && not (statusWasRead later) then without6And4 value else value
 
 -- "ordered pages": the words of the answers that order a page, which are those of kind 81 hex, in order.
 unfoldable pub orderedPages : List Said → List ℕ
 orderedPages [] = []
-orderedPages (s ∷ rest) = let more = orderedPages rest in cond (eqb (s .kind) 0x81) (s .value ∷ more) more
+orderedPages (s ∷ rest) = let more = orderedPages rest in if s .kind =? 0x81 then s .value ∷ more else more
 
 -- Two devices that, each given its row of events, "give the same answers, register values and ordered pages".
 pub record Same (d : Device) (later : List Event) (d′ : Device) (later′ : List Event) : Type 0 where
@@ -126,5 +127,5 @@ pub record Same (d : Device) (later : List Event) (d′ : Device) (later′ : Li
 -- 7.514-7.516 are the same.
 abbrev pub NoPageOutlivesItsLink : Type 0
 NoPageOutlivesItsLink =
-    (first second : Module) (later : List Event) → deviceOf first .advertised ≡ deviceOf second .advertised
+    (first second : Module) (later : List Event) → deviceOf first .lasting .advertised ≡ deviceOf second .lasting .advertised
     → Same (deviceOf first) later (deviceOf second) (map (shiftedBy (difference first second)) later)

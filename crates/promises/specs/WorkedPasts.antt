@@ -43,7 +43,7 @@ laterEvents = Tick 7999703 8 ∷ Tick 7999704 9 ∷ Tick 8349704 0 ∷ Read 8349
 pub record WorkedPasts : Type 0 where
   pub first-enters : entersBreak firstEntry (afterAll freshDevice firstPast) ≡ true
   pub second-enters : entersBreak secondEntry (afterAll freshDevice secondPast) ≡ true
-  pub same-advertised : firstDevice .advertised ≡ secondDevice .advertised
+  pub same-advertised : firstDevice .lasting .advertised ≡ secondDevice .lasting .advertised
   pub apart : timeBetween (readingOf secondEntry) (readingOf firstEntry) ≡ 9600296
   pub all-but-two : without6And4 (registerValue 0xFFFF) ≡ registerValue 0xFFAF
   pub first-says : saysTo firstDevice laterEvents

@@ -6,5 +6,5 @@ pub after-status-spec : {M : Type 1} → statement M
 after-status-spec =
     tie.close
     (tie.spec
-    (λ c κs. search needs)
-    (λ c. simp (← c .before .before .before .is-up .ensures)))
+    (λ c κs. search needs) (λ c κs. search needs) (λ c κs. search needs)
+    (λ c. simp (c .with-flags .ensures, c .before .with-latch .ensures, ← c .before .before .is-up .ensures)))

@@ -10,13 +10,8 @@ unfolding writeDue
 write-spec =
     tie.close
     (tie.spec
-    (λ c κs. search needs) (λ c. search needs) (λ c κs. search needs) (λ c κs. search needs) (λ c. search needs) (λ c κs. search needs) (λ c. search needs) (λ c κs. search needs) (λ c κs. search needs) (λ c. search needs) (λ c κs. search needs) (λ c κs. search needs) (λ c. search needs) (λ c κs. search needs) (λ c κs. search needs) (λ c. search needs) (λ c κs. search needs) (λ c. search needs) (λ c κs. search needs) (λ c. search needs) (λ c κs. search needs) (λ c. search needs) (λ c κs. search needs)
+    (λ c κs. search needs) (λ c. search needs) (λ c κs. search needs) (λ c κs. search needs) (λ c. search needs) (λ c κs. search needs) (λ c. search needs) (λ c κs. search needs) (λ c κs. search needs) (λ c. search needs) (λ c κs. search needs)
     (λ c. as-due (c .answered .ensures) (simp (c .before .command .ensures, sym (c .before .before .before .before .register-of .ensures) ∙ c .before .before .enum-told .given .1)))
     (λ c. as-due (c .answered2 .ensures) (simp (sym (c .before .before .before .register-of .ensures) ∙ c .before .enum-told2 .given .1)))
-    (λ c. as-due (c .answered3 .ensures) (simp (c .before .write-low .ensures, sym (c .before .before .before .before .register-of .ensures) ∙ c .before .before .enum-told3 .given .1)))
-    (λ c. as-due (c .answered4 .ensures) (simp (c .before .write-middle .ensures, sym (c .before .before .before .before .register-of .ensures) ∙ c .before .before .enum-told4 .given .1)))
-    (λ c. as-due (c .answered5 .ensures) (simp (c .before .write-high .ensures, sym (c .before .before .before .before .register-of .ensures) ∙ c .before .before .enum-told5 .given .1)))
-    (λ c. as-due (c .answered6 .ensures) (simp (sym (c .before .before .before .register-of .ensures) ∙ c .before .enum-told6 .given .1)))
-    (λ c. as-due (c .answered7 .ensures) (simp (sym (c .before .before .before .register-of .ensures) ∙ c .before .enum-told7 .given .1)))
-    (λ c. as-due (c .answered8 .ensures) (simp (sym (c .before .before .before .register-of .ensures) ∙ c .before .enum-told8 .given .1)))
-    (λ c. as-due (c .answered9 .ensures) (simp (sym (c .before .before .before .register-of .ensures) ∙ c .before .enum-told9 .given .1))))
+    (λ c. as-due (c .answered3 .ensures) (simp (c .before .write-bank .ensures, sym (c .before .before .before .before .before .register-of .ensures) ∙ c .before .before .before .bank .given .1)))
+    (λ c. as-due (c .answered4 .ensures) (simp (sym (c .before .before .before .register-of .ensures) ∙ c .before .enum-told3 .given .1))))

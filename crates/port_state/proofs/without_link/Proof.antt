@@ -6,5 +6,5 @@ pub without-link-spec : {M : Type 1} → statement M
 without-link-spec =
     tie.close
     (tie.spec
-    (λ c κs. search needs) (λ c κs. search needs)
-    (λ c. simp (c .no-talk .ensures, c .before .no-page .ensures)))
+    (λ c κs. search needs)
+    (λ c. simp (c .no-link .ensures)))

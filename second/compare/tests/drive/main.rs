@@ -19,4 +19,5 @@ mod runs;
 mod same_after_break;
 mod script;
 mod settling_log;
+mod table_of_01;
 mod walk;

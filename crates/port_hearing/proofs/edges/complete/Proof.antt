@@ -6,5 +6,5 @@ pub complete-spec : {M : Type 1} → statement M
 complete-spec =
     tie.close
     (tie.spec
-    (λ c κs. search needs) (λ c κs. search needs)
-    (λ c. simp (c .flags-by .ensures, c .before .registers-of .ensures)))
+    (λ c κs. search needs) (λ c κs. search needs) (λ c κs. search needs) (λ c κs. search needs) (λ c κs. search needs) (λ c κs. search needs) (λ c κs. search needs)
+    (λ c. simp (c .with-state .ensures, c .before .with-count .ensures, c .before .before .with-flags .ensures, c .before .before .before .with-partner .ensures, c .before .before .before .before .registers-of .ensures, c .before .before .before .before .before .with-mark .ensures, ← c .before .before .before .before .before .before .fault-after .ensures)))

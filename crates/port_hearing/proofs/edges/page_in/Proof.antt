@@ -14,6 +14,6 @@ page-in-spec =
     (λ c. as-due (c .answered2 .ensures) (simp (c .before .enum-told2 .given .1)))
     (λ c. as-due (c .page-in-ability .ensures) (simp (c .before .enum-told3 .given .1)))
     (λ c. as-due (c .page-in-ack .ensures) (simp (c .before .enum-told4 .given .1)))
-    (λ c. as-due (c .answered3 .ensures) (simp (c .before .heard-at .ensures, c .before .before .enum-told5 .given .1)))
+    (λ c. as-due (c .answered3 .ensures) (simp (c .before .with-mark .ensures, c .before .before .enum-told5 .given .1)))
     (λ c. as-due (c .answered4 .ensures) (simp (c .before .enum-told6 .given .1)))
     (λ c. as-due (c .answered5 .ensures) (simp (c .before .enum-told7 .given .1))))

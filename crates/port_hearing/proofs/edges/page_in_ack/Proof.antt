@@ -5,20 +5,16 @@ use Rattle.port_hearing.specs.Edges.{pageInAck}
 use Rattle.port_hearing.proofs.edges.page_in_ack.Statement.{statement}
 use Rattle.port_hearing.proofs.edges.page_in_ack.Tie as tie
 
-returns-4 : tie.Need-returns-4
-unfolding pageInAck
-returns-4 c = as-due (c .answered4 .ensures) (simp (c .before .enter-break2 .ensures, ne-eqb _ _ (c .before .before .if1 .left), ← c .before .before .before .beyond-ack-and-echo2 .ensures, ← c .before .before .before .before .beyond-ack-and-echo .ensures))
-
 pub page-in-ack-spec : {M : Type 1} → statement M
 unfolding pageInAck
 page-in-ack-spec =
     tie.close
     (tie.spec
-    (λ c κs. search needs) (λ c κs. search needs) (λ c κs. search needs) (λ c κs. search needs) (λ c κs. search needs)
-    (λ c. as-due (c .answered .ensures) (simp (c .before .heard-at .ensures, eq-eqb _ _ (c .before .before .if2 .taken), ← c .before .before .before .get .ensures, eq-eqb _ _ (c .before .before .before .before .if1 .taken), ← c .before .before .before .before .before .beyond-ack-and-echo2 .ensures, ← c .before .before .before .before .before .before .beyond-ack-and-echo .ensures)))
-    (λ c κs. search needs) (λ c κs. search needs) (λ c κs. search needs) (λ c κs. search needs)
-    (λ c. as-due (c .answered2 .ensures) (simp (c .before .complete .ensures, eq-eqb _ _ (c .before .before .if3 .taken), ← c .before .before .before .get3 .ensures, ← c .before .before .before .before .get2 .ensures, ne-eqb _ _ (c .before .before .before .before .before .if2 .left), ← c .before .before .before .before .before .before .get .ensures, eq-eqb _ _ (c .before .before .before .before .before .before .before .if1 .taken), ← c .before .before .before .before .before .before .before .before .beyond-ack-and-echo2 .ensures, ← c .before .before .before .before .before .before .before .before .before .beyond-ack-and-echo .ensures)))
+    (λ c κs. search needs) (λ c κs. search needs) (λ c κs. search needs)
+    (λ c. as-due (c .answered .ensures) (simp (c .before .enter-break .ensures, c .before .before .if1 .taken, ← c .before .before .before .is-changed .ensures)))
+    (λ c κs. search needs) (λ c κs. search needs) (λ c κs. search needs)
+    (λ c. as-due (c .answered2 .ensures) (simp (c .before .with-mark .ensures, eq-eqb _ _ (c .before .before .if2 .taken), ← c .before .before .before .get .ensures, c .before .before .before .before .if1 .left, ← c .before .before .before .before .before .is-changed .ensures)))
+    (λ c κs. search needs) (λ c κs. search needs) (λ c κs. search needs)
+    (λ c. as-due (c .answered3 .ensures) (simp (c .before .enter-break2 .ensures, c .before .before .if3 .taken, ← c .before .before .before .echoes-other .ensures, ne-eqb _ _ (c .before .before .before .before .if2 .left), ← c .before .before .before .before .before .get .ensures, c .before .before .before .before .before .before .if1 .left, ← c .before .before .before .before .before .before .before .is-changed .ensures)))
     (λ c κs. search needs) (λ c κs. search needs)
-    (λ c. as-due (c .answered3 .ensures) (simp (c .before .enter-break .ensures, ne-eqb _ _ (c .before .before .if3 .left), ← c .before .before .before .get3 .ensures, ← c .before .before .before .before .get2 .ensures, ne-eqb _ _ (c .before .before .before .before .before .if2 .left), ← c .before .before .before .before .before .before .get .ensures, eq-eqb _ _ (c .before .before .before .before .before .before .before .if1 .taken), ← c .before .before .before .before .before .before .before .before .beyond-ack-and-echo2 .ensures, ← c .before .before .before .before .before .before .before .before .before .beyond-ack-and-echo .ensures)))
-    (λ c κs. search needs) (λ c κs. search needs)
-    returns-4)
+    (λ c. as-due (c .answered4 .ensures) (simp (c .before .complete .ensures, c .before .before .if3 .left, ← c .before .before .before .echoes-other .ensures, ne-eqb _ _ (c .before .before .before .before .if2 .left), ← c .before .before .before .before .before .get .ensures, c .before .before .before .before .before .before .if1 .left, ← c .before .before .before .before .before .before .before .is-changed .ensures))))

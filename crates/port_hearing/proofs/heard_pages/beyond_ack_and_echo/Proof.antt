@@ -3,14 +3,10 @@ use Rattle.port_hearing.specs.Edges.{beyondAckAndEcho}
 use Rattle.port_hearing.proofs.heard_pages.beyond_ack_and_echo.Statement.{statement}
 use Rattle.port_hearing.proofs.heard_pages.beyond_ack_and_echo.Tie as tie
 
-returns : tie.Need-returns
-unfolding beyondAckAndEcho
-returns c = simp (← c .set2 .ensures, ← c .before .set .ensures)
-
 pub beyond-ack-and-echo-spec : {M : Type 1} → statement M
 unfolding beyondAckAndEcho
 beyond-ack-and-echo-spec =
     tie.close
     (tie.spec
     (λ c κs. search needs) (λ c κs. search needs)
-    returns)
+    (λ c. simp (← c .set2 .ensures, ← c .before .set .ensures)))

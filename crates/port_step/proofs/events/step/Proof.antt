@@ -1,4 +1,3 @@
-use mathlib.Core.Path.{refl}
 use borrow.Author.Needs.{needs}
 use Rattle.port_state.proofs.Dues.{as-due}
 use Rattle.port_step.specs.Steps.{stepOver}
@@ -18,11 +17,11 @@ unfolding stepOver
 step-spec =
     tie.close
     (tie.spec
-    (λ c. search needs) (λ c κs. search needs) (λ c. search needs) (λ c κs. search needs) (λ c. search needs) (λ c κs. search needs) (λ c. search needs) (λ c κs. search needs) (λ c. search needs) (λ c κs. search needs) (λ c. search needs) (λ c κs. search needs) (λ c. search needs)
+    (λ c. search needs) (λ c κs. search needs) (λ c. search needs) (λ c κs. search needs) (λ c. search needs) (λ c κs. search needs) (λ c. search needs) (λ c κs. search needs) (λ c. search needs) (λ c κs. search needs) (λ c. search needs) (λ c κs. search needs) (λ c. search needs) (λ c κs. search needs)
     (λ c. as-due (c .edge .ensures) (simp (c .before .before .event .given .1)))
     returns-2
     (λ c. as-due (c .sent .ensures) (simp (c .before .before .event3 .given .1)))
     (λ c. as-due (c .report .ensures) (simp (c .before .before .event4 .given .1)))
     (λ c. as-due (c .read .ensures) (simp (c .before .before .event5 .given .1)))
     returns-6
-    (λ c. rw (c .enum-told .given .1) (record { answer = refl; device = refl })))
+    (λ c. as-due (c .answered .ensures) (simp (c .before .enum-told .given .1))))

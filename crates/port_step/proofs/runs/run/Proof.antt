@@ -1,23 +1,23 @@
-use Rattle.port_step.proofs.RunLoop.{too-few, has-room, all-answered}
+use mathlib.Core.Path.{sym, ap, _∙_}
 use borrow.Author.Needs.{needs}
+use Rattle.answers.specs.Answers.{Leaves}
+use Rattle.port_step.proofs.RunLoop.{too-few, has-room, all-answered}
 use Rattle.port_step.proofs.runs.run.Statement.{statement}
 use Rattle.port_step.proofs.runs.run.Tie as tie
 
--- src/runs.rt:80:9
 returns : tie.Need-returns
-returns c = too-few _ _ (c .if1 .taken)
+returns c =
+    let few = too-few _ _ (c .if1 .taken) in (sym (ap (λ (x : Leaves). x .says) few), sym (ap (λ (x : Leaves). x .list) few))
 
--- src/runs.rt:82:5
-answer-all-requires : tie.Need-answer-all-requires
-answer-all-requires c κs = has-room _ (c .before .before .before .before .args .answers .now) (c .before .if1 .left)
-
--- src/runs.rt:74:1
-same-length : tie.Need-same-length
-same-length c = search needs
-
--- src/runs.rt:74:1
 returns-2 : tie.Need-returns-2
-returns-2 c = all-answered _ _ _ (c .before .before .before .before .if1 .left) (c .before .before .answer-all .ensures)
+returns-2 c =
+    let all = all-answered _ _ (c .before .before .before .before .if1 .left) in (sym (ap (λ (x : Leaves). x .says) all), c .before .before .answer-all .ensures ∙ sym (ap (λ (x : Leaves). x .list) all))
 
 pub run-spec : {M : Type 1} → statement M
-run-spec = tie.close (tie.spec returns answer-all-requires same-length returns-2)
+run-spec =
+    tie.close
+    (tie.spec
+    returns
+    (λ c κs. has-room _ (c .before .before .before .before .args .answers .now) (c .before .if1 .left))
+    (λ c. search needs)
+    returns-2)

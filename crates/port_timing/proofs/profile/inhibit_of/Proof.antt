@@ -1,6 +1,4 @@
-use mathlib.Core.Path.{ap, _∙_}
 use borrow.Author.Needs.{needs}
-use Rattle.port_timing.specs.Timers.{inhibitAt}
 use Rattle.port_timing.proofs.profile.inhibit_of.Statement.{statement}
 use Rattle.port_timing.proofs.profile.inhibit_of.Tie as tie
 
@@ -8,5 +6,5 @@ pub inhibit-of-spec : {M : Type 1} → statement M
 inhibit-of-spec =
     tie.close
     (tie.spec
-    (λ c κs. search needs) (λ c κs. search needs) (λ c κs. search needs)
-    (λ c. c .inhibit-at .ensures ∙ ap inhibitAt (c .before .packed .ensures) ∙ c .before .before .number-tells .ensures))
+    (λ c. search needs) (λ c. search needs) (λ c. search needs) (λ c. search needs) (λ c κs. search needs) (λ c. search needs) (λ c. search needs)
+    (λ c. simp (← c .inhibit-for .ensures, c .before .before .resolution2 .given .1, c .before .before .before .before .before .outcome .given .1)))

@@ -7,6 +7,6 @@ report-in-check-link-spec =
     tie.close
     (tie.spec
     (λ c κs. search needs) (λ c κs. search needs)
-    (λ c. simp (c .come-up .ensures, c .before .if2 .taken, ← c .before .before .has-rate .ensures, c .before .before .before .if1 .taken))
+    (λ c. simp (c .with-state .ensures, c .before .if2 .taken, ← c .before .before .has-rate .ensures, c .before .before .before .if1 .taken))
     (λ c. simp (c .if2 .left, ← c .before .has-rate .ensures, c .before .before .if1 .taken))
-    (λ c. search needs))
+    (λ c. simp (c .if1 .left)))

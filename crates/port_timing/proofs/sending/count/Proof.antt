@@ -1,13 +1,9 @@
 use borrow.Author.Needs.{needs}
 use Rattle.port_state.proofs.Dues.{as-due}
-use borrow.Author.Tests.{le-leb, lt-leb}
+use Rattle.port_timing.proofs.AtThree.{at-three, not-yet}
 use Rattle.port_timing.specs.Sending.{counted}
 use Rattle.port_timing.proofs.sending.count.Statement.{statement}
 use Rattle.port_timing.proofs.sending.count.Tie as tie
-
-returns : tie.Need-returns
-unfolding counted
-returns c = as-due (c .settle .ensures) (simp (le-leb _ _ (c .before .if1 .taken)))
 
 pub count-spec : {M : Type 1} → statement M
 unfolding counted
@@ -15,6 +11,6 @@ count-spec =
     tie.close
     (tie.spec
     (λ c κs. search needs)
-    returns
-    (λ c. search needs) (λ c κs. search needs)
-    (λ c. as-due (c .answered .ensures) (simp (lt-leb _ _ (c .before .before .before .if1 .left)))))
+    (λ c. as-due (c .settle .ensures) (simp (at-three _ (c .before .if1 .taken))))
+    (λ c. search needs) (λ c κs. search needs) (λ c κs. search needs)
+    (λ c. as-due (c .answered .ensures) (simp (c .before .with-count .ensures, not-yet _ (c .before .before .before .if1 .left)))))

@@ -9,7 +9,7 @@ unfolding orders
 order-spec =
     tie.close
     (tie.spec
-    (λ c κs. search needs) (λ c κs. search needs)
-    (λ c. as-due (c .answered .ensures) (simp (c .before .before .if1 .taken, ← c .before .before .before .may-order .ensures)))
+    (λ c κs. search needs) (λ c κs. search needs) (λ c κs. search needs)
+    (λ c. as-due (c .answered .ensures) (simp (c .before .with-out .ensures, c .before .before .if1 .taken, ← c .before .before .before .may-order .ensures)))
     (λ c κs. search needs)
     (λ c. as-due (c .answered2 .ensures) (simp (c .before .if1 .left, ← c .before .before .may-order .ensures))))

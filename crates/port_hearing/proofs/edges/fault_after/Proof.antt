@@ -1,10 +1,10 @@
 use borrow.Author.Needs.{needs}
 use borrow.Author.Tests.{eq-eqb, ne-eqb}
-use Rattle.port_hearing.proofs.edges.flags_by.Statement.{statement}
-use Rattle.port_hearing.proofs.edges.flags_by.Tie as tie
+use Rattle.port_hearing.proofs.edges.fault_after.Statement.{statement}
+use Rattle.port_hearing.proofs.edges.fault_after.Tie as tie
 
-pub flags-by-spec : {M : Type 1} → statement M
-flags-by-spec =
+pub fault-after-spec : {M : Type 1} → statement M
+fault-after-spec =
     tie.close
     (tie.spec
     (λ c κs. search needs)

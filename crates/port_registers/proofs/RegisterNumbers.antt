@@ -1,0 +1,67 @@
+-- Which numbers name 512 and 513: what is shown of a register's kind holds of its number.
+use Prim.Native.Nat.{ℕ, _-_, _/_, _%_}
+use mathlib.Core.Path.{_≡_, refl, sym, ap, _∙_}
+use mathlib.Core.Bool.{Bool, true, false, cond}
+use native.Mathlib.Omega.{arith}
+use lib.Dec.{eqb, ltb}
+use borrow.Author.Tests.{ltb-true, eqb-true, ne-eqb}
+use Rattle.port_state.specs.declared.page_registers.Third.{Third}
+use Rattle.port_registers.specs.declared.Bank.the-variants.{Advertised, Partner}
+use Rattle.port_registers.specs.declared.Register.{Register}
+use Rattle.port_registers.specs.declared.Register.the-variants.{Control, Status, Part, Missing}
+use Rattle.port_registers.specs.Registers.{thirdAt, inBank, registerOf}
+
+abbrev pub isControl : Register → Bool
+isControl Control = true
+isControl Status = false
+isControl (Part bank third) = false
+isControl Missing = false
+
+abbrev pub isStatus : Register → Bool
+isStatus Control = false
+isStatus Status = true
+isStatus (Part bank third) = false
+isStatus Missing = false
+
+-- No register of a bank is one of the two.
+bank-no-control : (bank : ℕ) (third : Third) → isControl (inBank bank third) ≡ false
+bank-no-control bank third = by (eqb bank 0) (eqb bank 1)
+  where
+    by : (a b : Bool) → isControl (cond a (Part Advertised third) (cond b (Part Partner third) Missing)) ≡ false
+    by true b = refl
+    by false true = refl
+    by false false = refl
+
+bank-no-status : (bank : ℕ) (third : Third) → isStatus (inBank bank third) ≡ false
+bank-no-status bank third = by (eqb bank 0) (eqb bank 1)
+  where
+    by : (a b : Bool) → isStatus (cond a (Part Advertised third) (cond b (Part Partner third) Missing)) ≡ false
+    by true b = refl
+    by false true = refl
+    by false false = refl
+
+-- The tests of a register's number, each as it comes out.
+module _ (n : ℕ) where
+  abbrev byTests : (below control status : Bool) → Register
+  byTests below control status =
+      cond below Missing (cond control Control (cond status Status (inBank ((n - 514) / 3) (thirdAt ((n - 514) % 3)))))
+
+  pub control-number : eqb n 512 ≡ isControl (registerOf n)
+  unfolding registerOf
+  control-number = by (ltb n 512) refl (eqb n 512) refl (eqb n 513)
+    where
+      by : (a : Bool) → ltb n 512 ≡ a → (b : Bool) → eqb n 512 ≡ b → (c : Bool) → b ≡ isControl (byTests a b c)
+      by true below b is c = sym is ∙ ne-eqb n 512 (let h = ltb-true n 512 below in λ e. omega arith)
+      by false above true is c = refl
+      by false above false is true = refl
+      by false above false is false = sym (bank-no-control ((n - 514) / 3) (thirdAt ((n - 514) % 3)))
+
+  pub status-number : eqb n 513 ≡ isStatus (registerOf n)
+  unfolding registerOf
+  status-number = by (ltb n 512) refl (eqb n 512) refl (eqb n 513) refl
+    where
+      by : (a : Bool) → ltb n 512 ≡ a → (b : Bool) → eqb n 512 ≡ b → (c : Bool) → eqb n 513 ≡ c → c ≡ isStatus (byTests a b c)
+      by true below b is c was = sym was ∙ ne-eqb n 513 (let h = ltb-true n 512 below in λ e. omega arith)
+      by false above true is c was = sym was ∙ ne-eqb n 513 (let h = eqb-true n 512 is in λ e. omega arith)
+      by false above false is true was = refl
+      by false above false is false was = sym (bank-no-status ((n - 514) / 3) (thirdAt ((n - 514) % 3)))

@@ -1,0 +1,12 @@
+use borrow.Author.Needs.{needs}
+use borrow.Author.Tests.{eq-eqb, ne-eqb}
+use Rattle.port_registers.proofs.in_bank.Statement.{statement}
+use Rattle.port_registers.proofs.in_bank.Tie as tie
+
+pub in-bank-spec : {M : Type 1} → statement M
+in-bank-spec =
+    tie.close
+    (tie.spec
+    (λ c. simp (eq-eqb _ _ (c .if1 .taken)))
+    (λ c. simp (eq-eqb _ _ (c .if2 .taken), ne-eqb _ _ (c .before .if1 .left)))
+    (λ c. simp (ne-eqb _ _ (c .if2 .left), ne-eqb _ _ (c .before .if1 .left))))
