@@ -147,7 +147,9 @@ fn resolve(cells: &[u64; 65536], from: usize, answers: &mut [u64; 65536], told: 
     tell_one(
         answers,
         told,
-        page_resolve::resolve(cells[from], cells[from + 1]).packed(),
+        page_resolve::resolve(cells[from], cells[from + 1])
+            .answer()
+            .packed(),
     )
 }
 

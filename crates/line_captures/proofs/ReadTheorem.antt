@@ -1,12 +1,13 @@
 -- Reading back, beyond what ReadingBack says: the reader after a page, where the next attempt opens, how many edges a page has, and that a shift of the
 -- clock is not seen; in one record, for the numbers of any mode whose windows lie apart, and so for 01's two modes.
 use mathlib.Core.Path.{_≡_, sym, ap, _∙_}
-use mathlib.Core.List.{List, [], _++_, append-nil}
+use mathlib.Core.List.{List, [], _∷_, _++_, append-nil}
 use Prim.Native.Nat.{ℕ, _+_, _-_, _*_, _%_, _^_, _<_, _≤_}
 use lib.ListN.{length, drop}
 use Rattle.line_mode.specs.declared.modes.LineMode.{LineMode}
 use Rattle.line_reader.specs.declared.endings.Ending.the-variants.{Good, Cut}
 use Rattle.line_reader.specs.declared.endings.Heard.the-variants.{Ended}
+use Rattle.line_reader.specs.declared.reader.Step.{Step}
 use Rattle.line_reader.specs.declared.reader.Reader.{Reader}
 use Rattle.line_reader.specs.declared.reader.Reader.the-variants.{Fresh, Open, Dropping}
 use Rattle.line_mode.specs.Clock.{timeBetween}
@@ -20,7 +21,7 @@ use Rattle.line_captures.specs.declared.captures.ReadOutcome.the-variant
 use Rattle.line_captures.specs.Captures.{opensAt, attemptOf, readIn}
 use Rattle.line_captures.specs.ReadingBack.{Carries}
 use Rattle.line_captures.proofs.EdgeRuns.{lastOf}
-use Rattle.line_captures.proofs.ReadBack.{as-many, fresh-reads, open-opens}
+use Rattle.line_captures.proofs.ReadBack.{as-many, opened-reads, fresh-reads, dropping-opens, open-opens}
 use Rattle.line_captures.proofs.ReadCaptures.{page-answer}
 use Rattle.line_captures.proofs.WriteThenRead.{written-read, placed-read}
 use Rattle.line_captures.proofs.CaptureShift.{allLater, attempt-later}
@@ -28,6 +29,9 @@ use Rattle.line_captures.proofs.CaptureShift.{allLater, attempt-later}
 pub record ReadsBack (m : LineMode) : Type 0 where
   -- After a page, edges are dropped.
   pub left : (w : ℕ) (edges : List ℕ) → w < 2 ^ 48 → Carries m w edges → readerAfter m Fresh edges ≡ Dropping (lastOf 0 edges)
+  -- So they are where edges were dropped before it, and quiet lay between.
+  pub quiet-left : (w last x : ℕ) (edges : List ℕ) → w < 2 ^ 48 → m .quiet ≤ timeBetween x last → Carries m w (x ∷ edges)
+      → readerAfter m (Dropping last) (x ∷ edges) ≡ Dropping (lastOf x edges)
   -- An edge that follows quiet ends an open attempt, and opens the next.
   pub cut : (at last bits x : ℕ) → m .quiet ≤ timeBetween x last → edgeOf m (Open at last bits) x ≡ step (Ended Cut) (Open 1 x 0)
   -- Where a capture begins with a page, the next attempt is the next that opens behind it;
@@ -63,6 +67,8 @@ pub reads-back : (m : LineMode) → Apart m → ReadsBack m
 reads-back m apart =
     record {
       left = λ w edges word carried. fresh-reads m apart w word edges carried .left;
+      quiet-left = λ w last x edges word q carried.
+          ap (λ (s : Step). readerAfter m (s .reader) edges) (dropping-opens m apart last x q) ∙ opened-reads m apart w word x edges carried .left;
       cut = λ at last bits x q. open-opens m apart last x q at bits;
       captured = λ w at edges rest word carried. page-answer m Fresh w (lastOf 0 edges) at edges rest (fresh-reads m apart w word edges carried);
       alone = λ w at edges word carried. only-page m apart w at edges word carried;

@@ -22,13 +22,13 @@ use port_state::with_latch;
 use port_state::with_third;
 
 // Three registers that hold a page.
-pub(crate) enum Bank {
+pub enum Bank {
     Advertised,
     Partner,
 }
 
 // The register that a number names.
-pub(crate) enum Register {
+pub enum Register {
     Control,
     Status,
     Part { bank: Bank, third: Third },
