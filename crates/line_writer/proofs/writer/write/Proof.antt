@@ -4,21 +4,6 @@ use Rattle.line_writer.specs.Writing.{writeOf}
 use Rattle.line_writer.proofs.writer.write.Statement.{statement}
 use Rattle.line_writer.proofs.writer.write.Tie as tie
 
-mode-of-requires : tie.Need-mode-of-requires
-mode-of-requires c κs = search needs
-
-enum-known-m : tie.Need-enum-known-m
-enum-known-m c = search needs
-
-write-in-requires : tie.Need-write-in-requires
-write-in-requires c κs = search needs
-
-enum-told : tie.Need-enum-told
-enum-told c = search needs
-
-same-length : tie.Need-same-length
-same-length c = search needs
-
 returns : tie.Need-returns
 unfolding writeOf
 returns c =
@@ -32,4 +17,4 @@ returns-2 c =
 
 pub write-spec : {M : Type 1} → statement M
 write-spec =
-    tie.close (tie.spec mode-of-requires enum-known-m write-in-requires enum-told same-length returns returns-2)
+    tie.close (tie.spec (λ c κs. search needs) (λ c. search needs) (λ c κs. search needs) (λ c. search needs) (λ c. search needs) returns returns-2)

@@ -41,9 +41,6 @@ unfolding edgeCount transitions
 add-count c =
     let r = room _ _ _ _ _ _ _ _ (c .before .before .before .loop .inv) (c .before .before .loop-test .taken) (sym (c .before .transition-at .ensures) ∙ c .if1 .taken) (c .before .before .before .before .before .pre .1) in search needs
 
-wrapping-add-u32-requires : tie.Need-wrapping-add-u32-requires Inv-loop μ-loop
-wrapping-add-u32-requires c κs = search needs
-
 loop-less : tie.Need-loop-less Inv-loop μ-loop
 loop-less c = omega arith
 
@@ -80,7 +77,7 @@ write-page-spec =
     mul-tail
     slice-write-tail
     add-count
-    wrapping-add-u32-requires
+    (λ c κs. search needs)
     loop-less
     loop-again
     same-length

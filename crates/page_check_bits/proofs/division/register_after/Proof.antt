@@ -16,9 +16,6 @@ abbrev μ-loop : tie.MeasureT-loop
 loop-holds : tie.Need-loop-holds Inv-loop μ-loop
 loop-holds c = start _ _
 
-cast-bit : tie.Need-cast-bit Inv-loop μ-loop
-cast-bit c = search needs
-
 add-i : tie.Need-add-i Inv-loop μ-loop
 add-i c = omega arith
 
@@ -37,4 +34,4 @@ returns c = finish _ _ _ _ _ (c .before .loop .inv) (c .loop-test .left)
 
 pub register-after-spec : {M : Type 1} → statement M
 register-after-spec =
-    tie.close (tie.spec Inv-loop μ-loop loop-holds cast-bit add-i loop-less loop-again returns)
+    tie.close (tie.spec Inv-loop μ-loop loop-holds (λ c. search needs) add-i loop-less loop-again returns)

@@ -18,25 +18,10 @@ abbrev μ-loop : tie.MeasureT-loop
 loop-holds : tie.Need-loop-holds Inv-loop μ-loop
 loop-holds c = start _ _ _
 
-shared-slice-read-ability : tie.Need-shared-slice-read-ability Inv-loop μ-loop
-shared-slice-read-ability c = search needs
-
-has-ability-requires : tie.Need-has-ability-requires Inv-loop μ-loop
-has-ability-requires c κs = search needs
-
-has-ability-requires-2 : tie.Need-has-ability-requires-2 Inv-loop μ-loop
-has-ability-requires-2 c κs = search needs
-
 returns : tie.Need-returns Inv-loop μ-loop
 returns c =
     found _ _ _ _ (c .before .before .before .before .before .before .loop .inv) (omega arith)
     (both-have _ _ _ (sym (c .before .before .before .has-ability .ensures) ∙ c .before .before .if1 .taken) (sym (c .before .has-ability2 .ensures) ∙ c .if2 .taken))
-
-add-i : tie.Need-add-i Inv-loop μ-loop
-add-i c = search needs
-
-loop-less : tie.Need-loop-less Inv-loop μ-loop
-loop-less c = search needs
 
 loop-again : tie.Need-loop-again Inv-loop μ-loop
 loop-again c =
@@ -56,11 +41,11 @@ first-common-spec =
     Inv-loop
     μ-loop
     loop-holds
-    shared-slice-read-ability
-    has-ability-requires
-    has-ability-requires-2
+    (λ c. search needs)
+    (λ c κs. search needs)
+    (λ c κs. search needs)
     returns
-    add-i
-    loop-less
+    (λ c. search needs)
+    (λ c. search needs)
     loop-again
     returns-2)

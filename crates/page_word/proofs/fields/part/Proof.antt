@@ -6,12 +6,6 @@ use Rattle.page_word.proofs.FieldLaws.{one-shifted}
 use Rattle.page_word.proofs.fields.part.Statement.{statement}
 use Rattle.page_word.proofs.fields.part.Tie as tie
 
-shr-result : tie.Need-shr-result
-shr-result c = search needs
-
-shl-result : tie.Need-shl-result
-shl-result c = search needs
-
 rem-result : tie.Need-rem-result
 rem-result c = rw (one-shifted (c .args .bits) (omega arith)) (pow-pos (c .args .bits))
 
@@ -20,4 +14,4 @@ unfolding part
 returns c = rw (one-shifted (c .args .bits) (omega arith))
 
 pub part-spec : {M : Type 1} → statement M
-part-spec = tie.close (tie.spec shr-result shl-result rem-result returns)
+part-spec = tie.close (tie.spec (λ c. search needs) (λ c. search needs) rem-result returns)

@@ -7,32 +7,8 @@ use Rattle.page_word.proofs.FieldLaws.{one-shifted, kept-shifted, place
 use Rattle.page_word.proofs.fields.with_part.Statement.{statement}
 use Rattle.page_word.proofs.fields.with_part.Tie as tie
 
-add-above : tie.Need-add-above
-add-above c = search needs
-
-cast-kept : tie.Need-cast-kept
-cast-kept c = search needs
-
-shr-kept : tie.Need-shr-kept
-shr-kept c = search needs
-
-cast-kept-2 : tie.Need-cast-kept-2
-cast-kept-2 c = search needs
-
-shl-kept : tie.Need-shl-kept
-shl-kept c = search needs
-
-shl-placed : tie.Need-shl-placed
-shl-placed c = search needs
-
 rem-placed : tie.Need-rem-placed
 rem-placed c = rw (one-shifted (c .args .bits) (omega arith)) (pow-pos (c .args .bits))
-
-shl-placed-2 : tie.Need-shl-placed-2
-shl-placed-2 c = search needs
-
-shl-result : tie.Need-shl-result
-shl-result c = search needs
 
 rem-result : tie.Need-rem-result
 rem-result c = rw (one-shifted (c .args .low) (omega arith)) (pow-pos (c .args .low))
@@ -63,15 +39,15 @@ pub with-part-spec : {M : Type 1} → statement M
 with-part-spec =
     tie.close
     (tie.spec
-    add-above
-    cast-kept
-    shr-kept
-    cast-kept-2
-    shl-kept
-    shl-placed
+    (λ c. search needs)
+    (λ c. search needs)
+    (λ c. search needs)
+    (λ c. search needs)
+    (λ c. search needs)
+    (λ c. search needs)
     rem-placed
-    shl-placed-2
-    shl-result
+    (λ c. search needs)
+    (λ c. search needs)
     rem-result
     add-result
     add-result-2
