@@ -1,7 +1,7 @@
 // Document 01's table of refusals, and the one way in which an answer becomes a number.
 ghost use mathlib.Core.Path.{_≡_};
-ghost use mathlib.Core.Bool.{cond};
 ghost use Prim.Native.Nat.{_+_};
+ghost use Rattle.answers.specs.Choices.{if_then_else_};
 ghost use Rattle.answers.specs.Numbers.{numberOf};
 ghost use Rattle.answers.specs.Answers.{said, packed, saying};
 
@@ -74,7 +74,7 @@ fn joined(kind: u8, value: u64) -> u64
 
 // An ability and a role as one value.
 fn rate_and_role(ability: u8, master: bool) -> u64
-    ensures { λ r. ⌜ r ≡ cond master (ability + 256) ability ⌝ }
+    ensures { λ r. ⌜ r ≡ (if master then ability + 256 else ability) ⌝ }
 {
     if master {
         (ability as u64) + 256

@@ -1,8 +1,7 @@
 // The edge reader: a reader by value, an edge in, what it says and the next reader out.
 ghost use mathlib.Core.Path.{_≡_};
-ghost use mathlib.Core.Bool.{cond};
 ghost use Prim.Native.Nat.{_+_, _/_, _^_, _≤_};
-ghost use lib.Dec.{eqb};
+ghost use Rattle.answers.specs.Choices.{if_then_else_, _=?_};
 ghost use Rattle.line_mode.specs.declared.modes.Judgement.the-variants.{Positions};
 ghost use Rattle.line_reader.specs.declared.endings.Heard.the-variants.{Nothing, Ended};
 ghost use Rattle.line_reader.specs.declared.reader.Reader.the-variants.{Open, Dropping};
@@ -78,7 +77,7 @@ fn whole(bits: u64, reading: u32) -> Step
 
 // The bits with one more, after a clock. The newest bit is the highest, so after 64 the first is the lowest.
 fn with_bit(k: u32, bits: u64) -> u64
-    ensures { λ r. ⌜ r ≡ bits / 2 + cond (eqb k 1) (2 ^ 63) 0 ⌝ }
+    ensures { λ r. ⌜ r ≡ bits / 2 + (if k =? 1 then 2 ^ 63 else 0) ⌝ }
 {
     if k == 1 {
         return bits / 2 + 0x8000000000000000;

@@ -2,13 +2,9 @@
 use Prim.Native.Nat.{ℕ}
 use mathlib.Core.Bool.{Bool}
 use Rattle.line_reader.specs.declared.reader.Reader.{Reader}
-use Rattle.port_state.specs.declared.State.{State}
 use Rattle.port_state.specs.declared.page_registers.PageRegisters.{PageRegisters}
-use Rattle.port_state.specs.declared.Lasting.{Lasting}
-use Rattle.port_state.specs.declared.Talk.{Talk}
 use Rattle.port_state.specs.declared.Outcome.{Outcome}
-use Rattle.port_state.specs.declared.Link.{Link}
-use Rattle.port_state.specs.declared.Device.{Device}
+use Rattle.port_state.specs.Memory.{State, Lasting, Talk, Link, Device}
 
 -- Its three parts.
 abbrev pub withLasting : Lasting → Device → Device

@@ -4,13 +4,13 @@ use mathlib.Core.Path.{_≡_}
 use mathlib.Core.Bool.{Bool, true, false}
 use Rattle.answers.specs.Answers.{Said, said}
 use Rattle.line_reader.specs.declared.reader.Reader.the-variants.{Fresh}
-use Rattle.port_state.specs.declared.State.{State}
+pub use Rattle.port_state.specs.declared.State.{State}
 use Rattle.port_state.specs.declared.State.the-variants.{Off, Break, Ability, Ack, Complete, CheckLink, Up}
-use Rattle.port_state.specs.declared.Lasting.{Lasting}
-use Rattle.port_state.specs.declared.Talk.{Talk}
+pub use Rattle.port_state.specs.declared.Lasting.{Lasting}
+pub use Rattle.port_state.specs.declared.Talk.{Talk}
 use Rattle.port_state.specs.declared.Outcome.the-variants.{NoneYet}
-use Rattle.port_state.specs.declared.Link.{Link}
-use Rattle.port_state.specs.declared.Device.{Device}
+pub use Rattle.port_state.specs.declared.Link.{Link}
+pub use Rattle.port_state.specs.declared.Device.{Device}
 use Rattle.port_state.specs.declared.Reply.{Reply}
 use Rattle.port_state.specs.PageRegisters.{noPage}
 

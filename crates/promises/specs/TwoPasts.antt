@@ -119,17 +119,14 @@ NoPageOutlivesItsLink =
     (first second : Module) (later : List Event) → deviceOf first .lasting .advertised ≡ deviceOf second .lasting .advertised
     → Same (deviceOf first) later (deviceOf second) (map (shiftedBy (difference first second)) later)
 
--- What demand 3 comes to for one module: after Break, no answer depends on any page heard before it. The only trace that a page may leave is two bits of
--- 7.513, "Page received" and "Remote fault", until they are read.
-
--- A new device: fresh, then 7.514-7.516 are written and it is enabled, all at one reading. It has never heard a page.
-abbrev pub switchedOn : ℕ → PageRegisters → List Event
+-- What demand 3 comes to for one module. A new device: fresh, then 7.514-7.516 are written and it is enabled, all at one reading. It has never heard a page.
+abbrev pub switchedOn : (reading : ℕ) → PageRegisters → List Event
 switchedOn reading a =
     Write reading 514 (a .low) ∷ Write reading 515 (a .middle) ∷ Write reading 516 (a .high) ∷ Write reading 512 (2 ^ 12) ∷ []
 
 -- A module with any past that has just gone into Break gives the same answers, register values and ordered pages to any later events as a
--- new one with the same advertisement, switched on at that reading: what it says is what it would say had it never heard a page. Only bits 6 and 4
--- of 7.513 may differ, up to and with its first read.
+-- new one with the same advertisement, switched on at that reading: what it says is what it would say had it never heard a page. The only trace that
+-- a page may leave is bits 6 and 4 of 7.513, up to and with its first read.
 abbrev pub AsIfNew : Type 0
 AsIfNew =
     (m : Module) (later : List Event)
