@@ -66,7 +66,7 @@ exact-says δ (e ∷ later) d =
 
 -- and the device afterwards is the twin with the same flags.
 pub exact-after : (δ : ℕ) (later : List Event) (d : Device)
-    → afterAll (twin δ (d .lasting .flags) d) (map (shiftedBy δ) later) ≡ twin δ (afterAll d later .flags) (afterAll d later)
+    → afterAll (twin δ (d .lasting .flags) d) (map (shiftedBy δ) later) ≡ twin δ (afterAll d later .lasting .flags) (afterAll d later)
 unfolding afterAll
 exact-after δ [] d = refl
 exact-after δ (e ∷ later) d =
