@@ -70,10 +70,11 @@ unfoldable pub badOnes : List Ending → ℕ
 badOnes [] = 0
 badOnes (ending ∷ rest) = (if isGood ending then 0 else 1) + badOnes rest
 
--- "mode HSM edges 3": all readings are counted, dropped ones too. "mode 1 prints LSM"
+-- "mode 1 prints LSM"
 abbrev pub modeName : (mode : ℕ) → List ℕ
 modeName mode = if mode =? 1 then text "LSM" else text "HSM"
 
+-- "mode HSM edges 3": all readings are counted, dropped ones too.
 unfoldable pub firstLine : (mode edges : ℕ) → List ℕ
 firstLine mode edges = text "mode " ++ modeName mode ++ text " edges " ++ decimal edges ++ text "\n"
 

@@ -12,5 +12,5 @@ pub record Puts (before : List ℕ) (at : ℕ) (bytes after : List ℕ) (next : 
   pub behind : next ≡ at + length bytes
 
 -- A list whose first entries are these; those behind them as they were.
-abbrev pub headed : List ℕ → List ℕ → List ℕ
+abbrev pub headed : (entries list : List ℕ) → List ℕ
 headed entries list = entries ++ drop (length entries) list

@@ -12,11 +12,11 @@ text empty = []
 text (letter then rest) = code letter ∷ text rest
 
 -- How many decimal digits a number has. No number of a listing is above 8 000, the most readings, so none has more than four.
-abbrev pub places : ℕ → ℕ
+abbrev pub places : (number : ℕ) → ℕ
 places n = if n <? 10 then 1 else if n <? 100 then 2 else if n <? 1000 then 3 else 4
 
 -- A number in decimal, without padding.
-unfoldable pub decimal : ℕ → List ℕ
+unfoldable pub decimal : (number : ℕ) → List ℕ
 decimal n = digits 10 (places n) n
 
 -- "12 hex digits, small letters": the word as a number, D47 in the highest digit.

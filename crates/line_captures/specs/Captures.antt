@@ -66,17 +66,18 @@ readIn mode capture place =
 unfoldable pub readOf : (mode : ℕ) (capture : List ℕ) (place : ℕ) → ReadOutcome
 readOf mode capture place = byMode (modeOf mode) (λ m. readIn m capture place) UnknownMode
 
--- How each attempt of a capture ends, in order: the read call goes from place to next place, until it brings no attempt. The first argument
--- bounds the number of calls; each next place is greater than the place, so as many as there are readings suffice.
+-- An attempt's ending, and those from the next place on.
 abbrev pub onwards : (outcome : ReadOutcome) (from : ℕ → List Ending) → List Ending
 onwards UnknownMode from = []
 onwards PastTheEnd from = []
 onwards AtTheEnd from = []
 onwards (Attempt ending next) from = ending ∷ from next
 
+-- How each attempt of a capture ends, in order: the read call goes from place to next place, until it brings no attempt. The first argument
+-- bounds the number of calls; each next place is greater than the place, so as many as there are readings suffice.
 unfoldable pub attemptsFrom : (most mode : ℕ) (capture : List ℕ) (place : ℕ) → List Ending
 attemptsFrom zero mode capture place = []
-attemptsFrom (suc more) mode capture place = onwards (readOf mode capture place) (attemptsFrom more mode capture)
+attemptsFrom (suc most) mode capture place = onwards (readOf mode capture place) (attemptsFrom most mode capture)
 
 unfoldable pub attempts : (mode : ℕ) (capture : List ℕ) → List Ending
 attempts mode capture = attemptsFrom (length capture) mode capture 0

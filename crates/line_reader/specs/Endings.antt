@@ -6,7 +6,7 @@ use Rattle.line_reader.specs.declared.endings.Ending.the-variants.{Good,
 use Rattle.line_reader.specs.declared.endings.Heard.{Heard}
 use Rattle.line_reader.specs.declared.endings.Heard.the-variants.{Nothing, Ended}
 
--- "A good page not refused answers itself", and rows 1 to 3 of the refusals: "Gap, Cut, Check: attempt ended".
+-- "A good page not refused answers itself", and rows 1 to 3 of the refusals, Gap, Cut and Check: "attempt ended".
 abbrev pub saidOfEnding : Ending → Said
 saidOfEnding (Good word) = pageRead word
 saidOfEnding Gap = refused refusal.Gap

@@ -4,13 +4,13 @@ use mathlib.Core.Bool.{Bool, true, false, not, _&&_}
 use Rattle.line_mode.specs.declared.modes.LineMode.{LineMode}
 use Rattle.line_page.specs.Pattern.{standsAt, has}
 
--- Whether at none of the n positions after p every page has a transition, one with a zero bit there too.
+-- Whether none of the n positions after p is one where every page has a transition, also one with a zero bit there.
 abbrev pub free : (mode : LineMode) (p n : ℕ) → Bool
 free mode p zero = true
 free mode p (suc n) = not (has (standsAt mode (p + suc n)) false) && free mode p n
 
--- A gap of k positions, 1 or more, after an edge at p: a page, one with one bits there, has edges at p and at p + k, and no page must have
--- one between them. Two positions after a clock pass over its bit. Where no page has an edge at p, on a record that no call has made, no
--- gap is right.
+-- A gap of k positions, 1 or more, after an edge at p: a page, one with one bits there, has edges at p and at p + k, and at no position between
+-- them does every page have one. Two positions after a clock pass over its bit. Where no page has an edge at p, on a record that no call
+-- has made, no gap is right.
 unfoldable pub asks : (mode : LineMode) (p k : ℕ) → Bool
 asks mode p k = has (standsAt mode p) true && (has (standsAt mode (p + k)) true && free mode p (k - 1))

@@ -13,7 +13,7 @@ use Rattle.line_page.specs.Pattern.{standsAt, has}
 unfoldable pub sentBits : (word : ℕ) → List Bool
 sentBits w = bitsOf 48 w ++ checkList w
 
--- Whether a page with these 64 bits has a transition at a position. The first bit stands at 28, and each other two positions after the last.
+-- Whether a page with these 64 bits has a transition at a position. The first bit stands at 28, and each other two positions after the last; only where a bit stands, from 28 on, is it looked at.
 unfoldable pub hasTransition : (mode : LineMode) (bits : List Bool) (position : ℕ) → Bool
 hasTransition mode bits p = has (standsAt mode p) (getD bits ((p - 28) / 2) false)
 

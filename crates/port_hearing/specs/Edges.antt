@@ -11,6 +11,7 @@ use Rattle.line_reader.specs.declared.endings.Ending.the-variants.{Good, Gap, C
 use Rattle.line_reader.specs.declared.endings.Heard.{Heard}
 use Rattle.line_reader.specs.declared.endings.Heard.the-variants.{Nothing, Ended}
 use Rattle.line_reader.specs.declared.reader.Step.{Step}
+use Rattle.line_reader.specs.Endings.{saidOfEnding}
 use Rattle.line_reader.specs.Reading.{edgeOf}
 use Rattle.port_state.specs.declared.State.{State}
 use Rattle.port_state.specs.declared.State.the-variants.{Off, Break, Ability, Ack, Complete, CheckLink, Up}
@@ -78,15 +79,15 @@ pageIn Up word reading d = due nothing d
 unfoldable pub hears : Heard → (reading : ℕ) → Device → Due
 hears Nothing reading d = due nothing d
 hears (Ended (Good word)) reading d = pageIn (d .state) word reading d
-hears (Ended Gap) reading d = due (refused refusal.Gap) d
-hears (Ended Cut) reading d = due (refused refusal.Cut) d
-hears (Ended Check) reading d = due (refused refusal.Check) d
+hears (Ended Gap) reading d = due (saidOfEnding Gap) d
+hears (Ended Cut) reading d = due (saidOfEnding Cut) d
+hears (Ended Check) reading d = due (saidOfEnding Check) d
 
--- The reader moves first.
+-- The reader takes the edge; what is heard then acts on the device with that reader.
 abbrev pub listened : Step → (reading : ℕ) → Device → Due
 listened step reading d = hears (step .heard) reading (withReader (step .reader) d)
 
--- In Off and Break, Check-link and Up edges are ignored, and "While a page is out, edges are ignored."
+-- "Edges, sent aside (Turn), and reports are ignored" in Break; in Off, Check-link and Up "edges ignored" too, and "While a page is out, edges are ignored."
 unfoldable pub edgeDue : LineMode → (reading : ℕ) → Device → Due
 edgeDue mode reading d =
     if isTalking (d .state) && not (d .link .talk .out) then listened (edgeOf mode (d .link .reader) reading) reading d

@@ -19,17 +19,17 @@ use Rattle.port_registers.specs.declared.Register.{Register}
 use Rattle.port_registers.specs.declared.Register.the-variants.{Control, Status, Part, Missing}
 
 -- From 514 on the registers stand in banks of three, each of which holds a page: "D15-0, D31-16, D47-32".
-abbrev pub thirdAt : (place : ℕ) → Third
-thirdAt place = if place =? 0 then Low else if place =? 1 then Middle else High
+abbrev pub thirdAt : (index : ℕ) → Third
+thirdAt index = if index =? 0 then Low else if index =? 1 then Middle else High
 
 -- The banks, in order: "514-516: .. advertised. 517-519: the partner's".
-abbrev pub inBank : (bank : ℕ) → Third → Register
-inBank bank third =
-    if bank =? 0 then Part Advertised third
-    else if bank =? 1 then Part Partner third
+abbrev pub inBank : (index : ℕ) → Third → Register
+inBank index third =
+    if index =? 0 then Part Advertised third
+    else if index =? 1 then Part Partner third
     else Missing
 
--- The register that a number names; row 10 of the refusals, Register: "not 512-519".
+-- The register that a number names; row 10 of the refusals, Register: "not 512-519". From 514 on the place in the banks is the number less 514.
 unfoldable pub registerOf : (number : ℕ) → Register
 registerOf number =
     if number <? 512 then Missing
@@ -72,15 +72,15 @@ unfoldable pub readDue : (number : ℕ) → Device → Due
 readDue number d = readAt (registerOf number) d
 
 -- "if bit 9 is set or it was off"
-abbrev pub restartsBy : (value : ℕ) → State → Bool
-restartsBy value state = hasBit value 9 || isOff state
+abbrev pub entersBreakBy : (value : ℕ) → State → Bool
+entersBreakBy value state = hasBit value 9 || isOff state
 
 -- A write to 512: "bit 15 written as one makes the device fresh (Off, all zero), the rest of that write unused. Otherwise bit 12 is enable: 0 goes Off; 1
 -- goes to Break if bit 9 is set or it was off." Else it stays as it was.
 unfoldable pub commanded : (value reading : ℕ) → Device → Device
 commanded value reading d =
     if hasBit value 15 then freshDevice
-    else if hasBit value 12 then (if restartsBy value (d .state) then intoBreak reading d else d)
+    else if hasBit value 12 then (if entersBreakBy value (d .state) then intoBreak reading d else d)
     else intoOff d
 
 -- A write to a bank. "517-519: the partner's, read only."

@@ -4,7 +4,7 @@ ghost use Prim.Native.Nat.{_≤_, _/_, _%_, _^_};
 ghost use Rattle.answers.specs.Choices.{if_then_else_, _=?_};
 ghost use Rattle.answers.specs.Answers.{registerValue};
 ghost use Rattle.port_state.specs.Memory.{Meets, due, isOff, isUp};
-ghost use Rattle.port_registers.specs.Registers.{thirdAt, inBank, registerOf, bankOf, statusBits, statusValue, statusRead, readDue, restartsBy, commanded, bankWritten, writeDue};
+ghost use Rattle.port_registers.specs.Registers.{thirdAt, inBank, registerOf, bankOf, statusBits, statusValue, statusRead, readDue, entersBreakBy, commanded, bankWritten, writeDue};
 use answers::Answer;
 use answers::Refusal;
 use port_state::Device;
@@ -207,7 +207,7 @@ fn has_bit(value: u16, weight: u16) -> bool
 
 // Whether a device that is enabled goes into Break.
 fn restarts(value: u16, state: State) -> bool
-    ensures { λ r. ⌜ r ≡ restartsBy value state ⌝ }
+    ensures { λ r. ⌜ r ≡ entersBreakBy value state ⌝ }
 {
     if has_bit(value, 512) {
         return true;

@@ -1,4 +1,4 @@
--- The device with one thing changed; all else stays. A field of the record is spelled here and where a link is forgotten (Memory), and in no other definition.
+-- The device with one thing changed; all else stays. The record is put together only here and where a link is forgotten (Memory); other definitions read its fields.
 use Prim.Native.Nat.{ℕ}
 use mathlib.Core.Bool.{Bool}
 use Rattle.line_reader.specs.declared.reader.Reader.{Reader}
@@ -6,7 +6,6 @@ use Rattle.port_state.specs.declared.page_registers.PageRegisters.{PageR
 use Rattle.port_state.specs.declared.Outcome.{Outcome}
 use Rattle.port_state.specs.Memory.{State, Lasting, Talk, Link, Device}
 
--- Its three parts.
 abbrev pub withLasting : Lasting → Device → Device
 withLasting lasting d = record { lasting = lasting; state = d .state; link = d .link }
 

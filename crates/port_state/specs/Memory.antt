@@ -27,7 +27,7 @@ pub record Meets (r : Reply) (d : Due) : Type 0 where
 abbrev pub due : Said → Device → Due
 due says device = record { says = says; device = device }
 
--- A choice by state.
+-- A choice by state: in Off, Break, Ability, Ack, Complete, Check-link, Up, in this order.
 abbrev pub byState : {A : Type 0} → State → (off break ability ack complete checkLink up : A) → A
 byState Off off break ability ack complete checkLink up = off
 byState Break off break ability ack complete checkLink up = break

@@ -1,4 +1,4 @@
--- 01, "Registers": a page's 48 bits as three registers, "D15-0, D31-16, D47-32".
+-- 01, "Registers": "All are 16 bits wide": a page's 48 bits as three of them, "D15-0, D31-16, D47-32".
 use Prim.Native.Nat.{ℕ, _+_, _*_, _/_, _%_, _^_}
 use Rattle.port_state.specs.declared.page_registers.PageRegisters.{PageRegisters}
 use Rattle.port_state.specs.declared.page_registers.Third.{Third}

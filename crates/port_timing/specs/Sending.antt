@@ -19,7 +19,8 @@ use Rattle.port_state.specs.declared.Outcome.{Outcome}
 abbrev pub ended : (reading : ℕ) → Device → Device
 ended reading d = withMark false reading (withOut false d)
 
--- "at three, resolve own and held page, answer and keep the outcome, go to Check-link, starting the inhibit timer"
+-- "at three, resolve own and held page, answer and keep the outcome, go to Check-link, starting the inhibit timer. The partner's NP bit is not looked at."
+-- "In Complete a refusal of resolving, 4, 5 or 13 as well .., goes to Check-link without a rate."
 abbrev pub resolved : (order : List ℕ) (reading : ℕ) → Device → Due
 resolved order reading d =
     let resolution = resolutionOf order (d .link .talk .own) (d .link .talk .held) in

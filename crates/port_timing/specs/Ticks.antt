@@ -3,6 +3,7 @@ use Prim.Native.Nat.{ℕ, _+_, _*_, _/_, _%_}
 use mathlib.Core.Bool.{Bool, true, false, not, _&&_}
 use mathlib.Core.List.{[], _∷_}
 use Rattle.answers.specs.Choices.{if_then_else_, _≤?_, _=?_, _<?_}
+use Rattle.page_resolve.specs.Roles.{isForced}
 use Rattle.page_resolve.specs.declared.resolving.Resolution.the-variants.{Refused, Settled}
 use Rattle.line_mode.specs.Clock.{timeBetween}
 use Rattle.line_mode.specs.Modes.{lsmMode}
@@ -11,7 +12,7 @@ use Rattle.port_state.specs.declared.Outcome.{Outcome}
 use Rattle.port_state.specs.declared.Outcome.the-variants.{NoneYet, Resolved}
 use Rattle.port_timing.specs.declared.profile.Profile.{Profile}
 use Rattle.page_word.specs.Fields.{fieldOf, withField}
-use Rattle.page_word.specs.declared.fields.Field.the-variants.{Selector, EchoedNonce, ForcedRole, Ack, NextPage, Nonce}
+use Rattle.page_word.specs.declared.fields.Field.the-variants.{Selector, EchoedNonce, Ack, NextPage, Nonce}
 use Rattle.answers.specs.Answers.{nothing, pageOrdered}
 use Rattle.line_reader.specs.declared.reader.Reader.{Reader}
 use Rattle.line_reader.specs.declared.reader.Reader.the-variants.{Fresh, Open, Dropping}
@@ -53,7 +54,7 @@ inhibitOf (Resolved (Settled ability master)) = inhibitFor ability
 -- "tick (with a draw, taken modulo 32)", "T = draw (but T4 as advertised if M/S is 1)": T0-T3 are the draw's in both cases.
 unfoldable pub nonceFor : (advertised draw : ℕ) → ℕ
 nonceFor advertised draw =
-    if fieldOf ForcedRole advertised =? 1 then draw % 16 + (fieldOf Nonce advertised / 16) * 16 else draw % 32
+    if isForced advertised then draw % 16 + (fieldOf Nonce advertised / 16) * 16 else draw % 32
 
 -- "own page is the advertisement with S = 1, E = 0, Ack = 0, NP = 0, T = draw"
 unfoldable pub ownPage : (advertised draw : ℕ) → ℕ
@@ -89,7 +90,7 @@ unfoldable pub orders : Profile → (reading word : ℕ) → Device → Due
 orders p reading word d =
     if mayOrder p reading (d .link) then due (pageOrdered word) (withOut true d) else due nothing d
 
--- By state. "When the timer is out: .. to Ability." "Check-link: .. Timer out: to Break." In Off a tick is ignored, in Up it is not named.
+-- By state. "When the timer is out: .. to Ability." "Check-link: .. Timer out: to Break." "Off: all but registers is ignored, sent aside"; in Up a tick is not named.
 abbrev pub tickIn : State → Profile → (reading draw : ℕ) → Device → Due
 tickIn Off p reading draw d = due nothing d
 tickIn Break p reading draw d =

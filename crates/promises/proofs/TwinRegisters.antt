@@ -15,7 +15,7 @@ use Rattle.port_state.specs.PageRegisters.{thirdOf}
 use Rattle.port_registers.specs.declared.Bank.the-variants.{Advertised, Partner}
 use Rattle.port_registers.specs.declared.Register.{Register}
 use Rattle.port_registers.specs.declared.Register.the-variants.{Control, Status, Part, Missing}
-use Rattle.port_registers.specs.Registers.{registerOf, controlValue, statusBits, readAt, readDue, restartsBy, commanded, writeAt, writeDue}
+use Rattle.port_registers.specs.Registers.{registerOf, controlValue, statusBits, readAt, readDue, entersBreakBy, commanded, writeAt, writeDue}
 use Rattle.port_registers.proofs.RegisterNumbers.{isStatus, status-number}
 use Rattle.promises.specs.TwoPasts.{shifted, without6And4}
 use Rattle.port_state.proofs.ClockAhead.{twin}
@@ -72,7 +72,7 @@ module _ (δ : ℕ) (g : Flags) where
   unfolding commanded
   command-twins value reading d =
       twins-if (hasBit value 15) (record { device = refl; flags = λ h. refl })
-      (twins-if (hasBit value 12) (twins-if (restartsBy value (d .state)) kept kept) kept)
+      (twins-if (hasBit value 12) (twins-if (entersBreakBy value (d .state)) kept kept) kept)
 
   write-at : (r : Register) (value reading : ℕ) (d : Device)
       → Alike δ (d .lasting .flags) g (writeAt r value reading d) (writeAt r value (shifted δ reading) (twin δ g d))

@@ -17,7 +17,7 @@ use Rattle.port_step.specs.declared.events.Event.the-variants.{Edge, Tick, Sent
 use Rattle.port_step.specs.Steps.{saysTo, afterAll}
 
 -- A page's edges from a reading on.
-abbrev pub pageFrom : ℕ → ℕ → List Event
+abbrev pub pageFrom : (reading word : ℕ) → List Event
 pageFrom reading word = map Edge (readings lsmMode word reading)
 
 -- A2 is advertised, and negotiation is enabled;

@@ -50,7 +50,7 @@ abbrev pub RunKept : (events answers : List ℕ) → Refusal → Type 0
 RunKept events answers refusal = runOf events answers ≡ kept refusal answers
 
 -- A word's page, but with sixteen zeros where its check bits belong.
-abbrev pub pageUnchecked : ℕ → ℕ → List Event
+abbrev pub pageUnchecked : (reading word : ℕ) → List Event
 pageUnchecked reading word =
     map Edge
     (map (readingAt (lsmMode .spacing) reading)
@@ -58,7 +58,7 @@ pageUnchecked reading word =
 
 -- As in the first link, but with these values in 514 and 515 and this page from the partner, which comes again with Ack 1 and the own nonce, 5, echoed;
 -- three pages are sent, and then the link comes up.
-abbrev pub settlingWith : ℕ → ℕ → ℕ → List Event
+abbrev pub settlingWith : (low middle word : ℕ) → List Event
 settlingWith low middle word =
     (Write 0 514 low ∷ Write 0 515 middle ∷ Write 0 512 (2 ^ 12) ∷ Tick 8000000 5 ∷ [])
     ++ (pageFrom 8001000 word ++ (pageFrom 8200000 (word + 0x40A0) ++ (threeSent ++ (Report 9500000 true ∷ []))))
