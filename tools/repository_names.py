@@ -24,9 +24,9 @@ def declared(source):
         depth = len(line) - len(line.lstrip())
         while blocks and blocks[-1][0] >= depth:
             blocks.pop()
-        found = re.match(r'(?:\w+ )*?pub (?:(record|data|mod) )?([^\s:]+)', text)
+        found = re.match(r'(?:\w+ )*?pub (?:(record|data|mod|use) )?([^\s:]+)', text)
         inside = blocks[-1][1] if blocks else ''
-        if found and found[1] != 'mod':
+        if found and found[1] not in ('mod', 'use'):
             yield (f'{inside}.{found[2]}' if inside else found[2]), number
         if re.match(r'(?:pub )?(?:record|data) ', text):
             blocks.append((depth, found[2] if found else 'hidden'))
@@ -86,6 +86,7 @@ class Repository:
 
 ANTT = '''-- pub in-a-comment : ℕ
 pub mod Other
+pub use a.Given.{Given}
 abbrev pub first : ℕ → ℕ
 first n = n
 pub record Both (n : ℕ) : Type 0 where
@@ -100,7 +101,7 @@ module _ (n : ℕ)
     pub law-of : n ≡ m
     unfolding first
 '''
-DECLARED = [('first', 3), ('Both', 5), ('Both.one', 6), ('Inner', 12), ('Inner.left', 13), ('law-of', 14)]
+DECLARED = [('first', 4), ('Both', 6), ('Both.one', 7), ('Inner', 13), ('Inner.left', 14), ('law-of', 15)]
 CRATE = {
     'lib': 'mod a;\npub use a::shown;\npub use a::{Kind, Other};\n// pub fn no() {}\n'
            'pub extern "C" fn own(x: u8) -> u8 { x }\npub(crate) fn not() {}\n',
