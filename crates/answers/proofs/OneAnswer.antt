@@ -118,27 +118,6 @@ never-zero Wide = refl
 never-zero Mode = refl
 never-zero Odd = refl
 
--- and none has a number beyond 01's table.
-pub at-most-15 : (r : Refusal) → numberOf r ≤ 15
-at-most-15 Gap = omega arith
-at-most-15 Cut = omega arith
-at-most-15 Check = omega arith
-at-most-15 Selector = omega arith
-at-most-15 Tie = omega arith
-at-most-15 Changed = omega arith
-at-most-15 Echo = omega arith
-at-most-15 None = omega arith
-at-most-15 Roles = omega arith
-at-most-15 Register = omega arith
-at-most-15 Turn = omega arith
-at-most-15 Room = omega arith
-at-most-15 Wide = omega arith
-at-most-15 Mode = omega arith
-at-most-15 Odd = omega arith
-
-pub no-refusal : (r : Refusal) (kind : ℕ) → 16 ≤ kind → eqb (numberOf r) kind ≡ false
-no-refusal r kind beyond = ne-eqb (numberOf r) kind (λ same. let most = at-most-15 r in absurd (omega arith))
-
 -- The kind of an answer is read off its number.
 pub kind-of-packed : (s : Said) → packed s / 2 ^ 56 ≡ s .kind
 kind-of-packed s = digits-div (s .kind) (mod-lt (s .value) (pow-pos 56))

@@ -1,4 +1,4 @@
--- Which numbers name 512 and 513: what is shown of a register's kind holds of its number.
+-- Which numbers name 512 and 513: what is shown of a register's kind holds of its number. And a law over all banks.
 use Prim.Native.Nat.{ℕ, _-_, _/_, _%_}
 use mathlib.Core.Path.{_≡_, refl, sym, ap, _∙_}
 use mathlib.Core.Bool.{Bool, true, false, cond}
@@ -6,10 +6,14 @@ use native.Mathlib.Omega.{arith}
 use lib.Dec.{eqb, ltb}
 use borrow.Author.Tests.{ltb-true, eqb-true, ne-eqb}
 use Rattle.port_state.specs.declared.page_registers.Third.{Third}
+use Rattle.port_state.specs.declared.Flags.{Flags}
+use Rattle.port_state.specs.declared.Device.{Device}
+use Rattle.port_state.proofs.ClockAhead.{twin}
+use Rattle.port_registers.specs.declared.Bank.{Bank}
 use Rattle.port_registers.specs.declared.Bank.the-variants.{Advertised, Partner}
 use Rattle.port_registers.specs.declared.Register.{Register}
 use Rattle.port_registers.specs.declared.Register.the-variants.{Control, Status, Part, Missing}
-use Rattle.port_registers.specs.Registers.{thirdAt, inBank, registerOf}
+use Rattle.port_registers.specs.Registers.{thirdAt, inBank, registerOf, bankOf}
 
 abbrev pub isControl : Register → Bool
 isControl Control = true
@@ -23,22 +27,15 @@ isStatus Status = true
 isStatus (Part bank third) = false
 isStatus Missing = false
 
--- No register of a bank is one of the two.
-bank-no-control : (bank : ℕ) (third : Third) → isControl (inBank bank third) ≡ false
-bank-no-control bank third = by (eqb bank 0) (eqb bank 1)
+-- What holds of no register of a bank, and not of a missing one, does not hold of what stands in the banks.
+not-in-bank : (test : Register → Bool) (index : ℕ) (third : Third) → ((bank : Bank) → test (Part bank third) ≡ false) → test Missing ≡ false
+    → test (inBank index third) ≡ false
+not-in-bank test index third part missing = by (eqb index 0) (eqb index 1)
   where
-    by : (a b : Bool) → isControl (cond a (Part Advertised third) (cond b (Part Partner third) Missing)) ≡ false
-    by true b = refl
-    by false true = refl
-    by false false = refl
-
-bank-no-status : (bank : ℕ) (third : Third) → isStatus (inBank bank third) ≡ false
-bank-no-status bank third = by (eqb bank 0) (eqb bank 1)
-  where
-    by : (a b : Bool) → isStatus (cond a (Part Advertised third) (cond b (Part Partner third) Missing)) ≡ false
-    by true b = refl
-    by false true = refl
-    by false false = refl
+    by : (a b : Bool) → test (cond a (Part Advertised third) (cond b (Part Partner third) Missing)) ≡ false
+    by true b = part Advertised
+    by false true = part Partner
+    by false false = missing
 
 -- The tests of a register's number, each as it comes out.
 module _ (n : ℕ) where
@@ -54,7 +51,7 @@ module _ (n : ℕ) where
       by true below b is c = sym is ∙ ne-eqb n 512 (let h = ltb-true n 512 below in λ e. omega arith)
       by false above true is c = refl
       by false above false is true = refl
-      by false above false is false = sym (bank-no-control ((n - 514) / 3) (thirdAt ((n - 514) % 3)))
+      by false above false is false = sym (not-in-bank isControl ((n - 514) / 3) (thirdAt ((n - 514) % 3)) (λ bank. refl) refl)
 
   pub status-number : eqb n 513 ≡ isStatus (registerOf n)
   unfolding registerOf
@@ -64,4 +61,9 @@ module _ (n : ℕ) where
       by true below b is c was = sym was ∙ ne-eqb n 513 (let h = ltb-true n 512 below in λ e. omega arith)
       by false above true is c was = sym was ∙ ne-eqb n 513 (let h = eqb-true n 512 is in λ e. omega arith)
       by false above false is true was = refl
-      by false above false is false was = sym (bank-no-status ((n - 514) / 3) (thirdAt ((n - 514) % 3)))
+      by false above false is false was = sym (not-in-bank isStatus ((n - 514) / 3) (thirdAt ((n - 514) % 3)) (λ bank. refl) refl)
+
+-- A bank is the same on a clock that is ahead.
+pub bank-ahead : (bank : Bank) (δ : ℕ) (g : Flags) (d : Device) → bankOf bank (twin δ g d) ≡ bankOf bank d
+bank-ahead Advertised δ g d = refl
+bank-ahead Partner δ g d = refl

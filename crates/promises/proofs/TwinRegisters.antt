@@ -15,8 +15,8 @@ use Rattle.port_state.specs.PageRegisters.{thirdOf}
 use Rattle.port_registers.specs.declared.Bank.the-variants.{Advertised, Partner}
 use Rattle.port_registers.specs.declared.Register.{Register}
 use Rattle.port_registers.specs.declared.Register.the-variants.{Control, Status, Part, Missing}
-use Rattle.port_registers.specs.Registers.{registerOf, controlValue, statusBits, readAt, readDue, entersBreakBy, commanded, writeAt, writeDue}
-use Rattle.port_registers.proofs.RegisterNumbers.{isStatus, status-number}
+use Rattle.port_registers.specs.Registers.{registerOf, bankOf, controlValue, statusBits, readAt, readDue, entersBreakBy, commanded, writeAt, writeDue}
+use Rattle.port_registers.proofs.RegisterNumbers.{isStatus, status-number, bank-ahead}
 use Rattle.promises.specs.TwoPasts.{shifted, without6And4}
 use Rattle.port_state.proofs.ClockAhead.{twin}
 use Rattle.promises.proofs.Twins.{Twins, Alike, twins-if, kept, saying-same}
@@ -58,8 +58,7 @@ module _ (δ : ℕ) (g : Flags) where
   read-at : (r : Register) (d : Device) → isStatus r ≡ false → Alike δ (d .lasting .flags) g (readAt r d) (readAt r (twin δ g d))
   read-at Control d other = saying-same (registerValue (controlValue d)) kept
   read-at Status d other = absurd (true≢false other)
-  read-at (Part Advertised third) d other = saying-same (registerValue (thirdOf third (d .lasting .advertised))) kept
-  read-at (Part Partner third) d other = saying-same (registerValue (thirdOf third (d .link .partner))) kept
+  read-at (Part bank third) d other = rw (bank-ahead bank δ g d) (saying-same (registerValue (thirdOf third (bankOf bank d))) kept)
   read-at Missing d other = saying-same (refused refusal.Register) kept
 
   pub read-alike : (n : ℕ) (d : Device) → eqb n 513 ≡ false → Alike δ (d .lasting .flags) g (readDue n d) (readDue n (twin δ g d))
@@ -91,8 +90,7 @@ module _ (δ : ℕ) (g : Flags) where
 same-at : (δ : ℕ) (r : Register) (d : Device) → readAt r d .says ≡ readAt r (twin δ (d .lasting .flags) d) .says
 same-at δ Control d = refl
 same-at δ Status d = refl
-same-at δ (Part Advertised third) d = refl
-same-at δ (Part Partner third) d = refl
+same-at δ (Part bank third) d = rw (bank-ahead bank δ (d .lasting .flags) d)
 same-at δ Missing d = refl
 
 pub read-same : (δ n : ℕ) (d : Device) → readDue n d .says ≡ readDue n (twin δ (d .lasting .flags) d) .says

@@ -6,5 +6,6 @@ pub report-in-up-spec : {M : Type 1} → statement M
 report-in-up-spec =
     tie.close
     (tie.spec
-    (λ c. search needs) (λ c κs. search needs)
+    (λ c. simp (c .if1 .taken))
+    (λ c κs. search needs)
     (λ c. simp (c .enter-break .ensures, c .before .if1 .left)))
