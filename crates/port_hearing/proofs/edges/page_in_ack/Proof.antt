@@ -5,13 +5,17 @@ use Rattle.port_hearing.specs.Edges.{pageInAck}
 use Rattle.port_hearing.proofs.edges.page_in_ack.Statement.{statement}
 use Rattle.port_hearing.proofs.edges.page_in_ack.Tie as tie
 
+returns : tie.Need-returns
+unfolding pageInAck
+returns c = as-due (c .answered .ensures) (simp (c .before .enter-break .ensures, c .before .before .if1 .taken, ← c .before .before .before .is-changed .ensures))
+
 pub page-in-ack-spec : {M : Type 1} → statement M
 unfolding pageInAck
 page-in-ack-spec =
     tie.close
     (tie.spec
     (λ c κs. search needs) (λ c κs. search needs) (λ c κs. search needs)
-    (λ c. as-due (c .answered .ensures) (simp (c .before .enter-break .ensures, c .before .before .if1 .taken, ← c .before .before .before .is-changed .ensures)))
+    returns
     (λ c κs. search needs) (λ c κs. search needs) (λ c κs. search needs)
     (λ c. as-due (c .answered2 .ensures) (simp (c .before .with-mark .ensures, eq-eqb _ _ (c .before .before .if2 .taken), ← c .before .before .before .get .ensures, c .before .before .before .before .if1 .left, ← c .before .before .before .before .before .is-changed .ensures)))
     (λ c κs. search needs) (λ c κs. search needs) (λ c κs. search needs)
