@@ -18,7 +18,7 @@
 extern "C" {
 #endif
 
-/* The kinds of answer. 1 to 27 are refusals; a refusal's value is 0. */
+/* The kinds of answer. 1 to 14 are refusals, and the numbers to 27 are kept for more of them; a refusal's value is 0. */
 enum {
     MASTSTEP_NOTHING = 0,     /* no answer; the value is 0 */
     MASTSTEP_GAP = 1,         /* an attempt ended: a gap was not what the pattern of a page asks there */

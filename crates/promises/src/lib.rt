@@ -3,8 +3,7 @@
 // specs/Demands      what the customer's demands say beyond the contracts of the calls, in one place: all that follows here
 // specs/SmallDamage  what the check bits are worth: no small damage makes another page of a page
 // specs/BothEnds     the two ends of a link settle on the same rate, with opposite roles
-// specs/TwoPasts     demand 3: no page outlives its link
-// specs/AsIfNew      what it comes to for one module: after Break no answer depends on any page heard before it
+// specs/TwoPasts     demand 3: no page outlives its link; and for one module: after Break no answer depends on any page heard before it
 // specs/WorkedPasts  two pasts for which demand 3 is worked out
 // specs/Table        P1-P14
 // specs/FirstLink    a link from a fresh device through every state to Up
