@@ -2,7 +2,8 @@
 -- 01, "Language forms in the code": "Whenever an answer is an enum, a definition gives this paper's number and values for each of the enum's cases. The promises use that definition."
 use Prim.Native.Nat.{ℕ, _+_, _*_, _%_, _^_}
 use mathlib.Core.Bool.{Bool}
-use mathlib.Core.List.{List, [], _∷_}
+use mathlib.Core.List.{List, [], _∷_, _++_}
+use lib.ListN.{length, take, drop}
 use Rattle.answers.specs.declared.Refusal.{Refusal}
 use Rattle.answers.specs.declared.Answer.{Answer}
 use Rattle.answers.specs.declared.Answer.the-variants.{Nothing, Refused, Page, Order, Settled, Value, Number, Quiet, Unfit}
@@ -82,6 +83,10 @@ pub record Leaves : Type 0 where
 
 abbrev pub leaving : Said → List ℕ → Leaves
 leaving says list = record { says = says; list = list }
+
+-- Entries put into a lent list from a place on: "All other entries keep their contents."
+abbrev pub putAt : (place : ℕ) (entries list : List ℕ) → List ℕ
+putAt place entries list = take place list ++ entries ++ drop (place + length entries) list
 
 -- On a refusal "list kept".
 abbrev pub kept : Refusal → List ℕ → Leaves

@@ -6,14 +6,14 @@ use native.Mathlib.Omega.{arith}
 use borrow.Author.Tests.{le-leb}
 use lib.ListN.{length, take, drop, length-append, length-drop}
 use lib.Seq.{take-append-seam}
-use Rattle.answers.specs.Answers.{number, packed}
+use Rattle.answers.specs.Answers.{number, packed, putAt}
+use Rattle.answers.proofs.PutAtStart.{put-at-start}
 use Rattle.line_reader.specs.declared.endings.Ending.{Ending}
 use Rattle.line_captures.specs.declared.captures.ReadOutcome.{ReadOutcome}
 use Rattle.line_captures.specs.declared.captures.ReadOutcome.the-variants.{UnknownMode, PastTheEnd, AtTheEnd, Attempt}
 use Rattle.line_captures.specs.Captures.{readOf, onwards, attemptsFrom, attempts}
 use Rattle.bench_listing.specs.declared.input.Given.{Given}
 use Rattle.bench_listing.specs.declared.input.Given.the-variants.{Refused, Capture}
-use Rattle.bench_listing.specs.Placing.{headed}
 use Rattle.bench_listing.specs.Listing.{given, readingsOf, attemptLine, attemptLines, goodOnes, badOnes, firstLine, lastLine, captureListing, listingBy, listing}
 use Rattle.bench_listing.specs.Calls.{listed}
 use Rattle.bench_listing.proofs.LineLaws.{attempt-short, first-short, last-short, refused-short}
@@ -84,12 +84,12 @@ pub answered : (input readings output out : List ℕ) (answer : ℕ) → 8000 �
     → Answered input out (answer % 72057594037927936)
 unfolding listed
 answered input readings output out answer a b e o =
-    record { few = let l = listing-short input in let c = count in omega arith; text = ap₂ take (sym count) left ∙ take-append-seam (listing input) (drop (length (listing input)) output) }
+    record { few = let l = listing-short input in let c = count in omega arith; text = ap₂ take (sym count) (left ∙ put-at-start (listing input) output) ∙ take-append-seam (listing input) (drop (length (listing input)) output) }
   where
     count : length (listing input) ≡ answer % 72057594037927936
     count =
         let l = listing-short input in
         let s : answer ≡ packed (number (length (listing input))) = rw (le-leb 8000 (length readings) a, le-leb 184040 (length output) b) at e in omega arith
 
-    left : out ≡ headed (listing input) output
+    left : out ≡ putAt 0 (listing input) output
     left = rw (le-leb 8000 (length readings) a, le-leb 184040 (length output) b) at o

@@ -2,12 +2,12 @@
 use mathlib.Core.Path.{_≡_, refl, sym, ap, ap₂, _∙_, subst}
 use mathlib.Core.List.{List, [], _++_, append-nil, append-assoc}
 use Prim.Native.Nat.{ℕ, _+_, _<_, _≤_}
-use native.Mathlib.Nat.{zero-add, add-zero}
+use native.Mathlib.Nat.{add-zero}
 use native.Mathlib.Numerals.{add-one}
 use native.Mathlib.Omega.{arith}
 use lib.ListN.{length, take, drop, getD, set, length-append, length-drop, length-set, take-append-drop}
 use lib.Seq.{take-at, drop-append-add, drop-drop, length-take-le, take-length, paste, paste-zero, paste-suc}
-use Rattle.bench_listing.specs.Placing.{Puts, headed}
+use Rattle.bench_listing.specs.Placing.{Puts}
 
 module _ {before : List ℕ} {at : ℕ} {bytes after : List ℕ} {next : ℕ} (p : Puts before at bytes after next) where
   head-length : length (take at before ++ bytes) ≡ next
@@ -53,10 +53,6 @@ module _ {before : List ℕ} {at : ℕ} {bytes after : List ℕ} {next : ℕ} (p
           ∙ drop-append-add (take at before ++ bytes) (drop (at + length bytes) before) (length more)
           ∙ drop-drop (length more) (at + length bytes) before
           ∙ ap (λ (n : ℕ). drop n before) (let l = length-append bytes more in let e : (at + length bytes) + length more ≡ at + length (bytes ++ more) = omega arith in e)
-
--- Bytes put from index 0 on head the list.
-pub puts-headed : {before bytes after : List ℕ} {next : ℕ} → Puts before 0 bytes after next → after ≡ headed bytes before
-puts-headed {before} {bytes} p = p .contents ∙ ap (λ (n : ℕ). bytes ++ drop n before) (zero-add (length bytes))
 
 -- Copying byte by byte.
 pub record Copying (before : List ℕ) (at : ℕ) (bytes list : List ℕ) (i : ℕ) : Type 0 where

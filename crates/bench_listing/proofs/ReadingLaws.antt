@@ -6,8 +6,13 @@ use native.Mathlib.Numerals.{add-one}
 use native.Mathlib.Omega.{arith}
 use lib.ListN.{length, getD, drop, set, length-append, length-drop, length-set}
 use lib.Seq.{drop-cons, set-at}
-use Rattle.bench_listing.specs.Placing.{headed}
-use Rattle.bench_listing.specs.Listing.{readingsOf, readingFrom}
+use Rattle.answers.specs.Answers.{putAt}
+use Rattle.answers.proofs.PutAtStart.{put-at-start}
+use Rattle.bench_listing.specs.Listing.{reading, readingsOf}
+
+-- The reading whose four bytes stand in a list from an index on.
+abbrev pub readingFrom : List ℕ → ℕ → ℕ
+readingFrom bytes at = reading (getD bytes at 0) (getD bytes (at + 1) 0) (getD bytes (at + 2) 0) (getD bytes (at + 3) 0)
 
 step : (l : List ℕ) (i j : ℕ) → j ≡ suc i → i < length l → drop i l ≡ getD l i 0 ∷ drop j l
 step l i j e h = drop-cons l i 0 h ∙ ap (λ (k : ℕ). getD l i 0 ∷ drop k l) (sym e)
@@ -65,13 +70,16 @@ module _ (input before list : List ℕ) (count i : ℕ) (g : Decoding input befo
 
   -- What the loop leaves.
   pub record Decoded : Type 0 where
-    pub contents : list ≡ headed (readingsOf (drop 1 input)) before
+    pub contents : list ≡ putAt 0 (readingsOf (drop 1 input)) before
     pub size : count ≡ length (readingsOf (drop 1 input))
 
   pub decoded : count ≤ i → length input < 4 * count + 5 → Decoded
   decoded h few =
       record {
-        contents = g .contents ∙ ap₂ (λ (l : List ℕ) (n : ℕ). l ++ drop n before) (sym all) (sym (g .size) ∙ ap length (sym all));
+        contents =
+            g .contents
+            ∙ ap₂ (λ (l : List ℕ) (n : ℕ). l ++ drop n before) (sym all) (sym (g .size) ∙ ap length (sym all))
+            ∙ sym (put-at-start (readingsOf (drop 1 input)) before);
         size = let m = g .most in let e : count ≡ i = omega arith in e ∙ sym (g .size) ∙ ap length (sym all);
       }
     where

@@ -4,9 +4,8 @@ use mathlib.Core.Bool.{_&&_}
 use mathlib.Core.List.{List}
 use lib.ListN.{length}
 use Rattle.answers.specs.Choices.{if_then_else_, _≤?_}
-use Rattle.answers.specs.Answers.{Said, refused, number}
+use Rattle.answers.specs.Answers.{Said, refused, number, putAt}
 use Rattle.answers.specs.declared.Refusal.the-variants.{Room}
-use Rattle.bench_listing.specs.Placing.{headed}
 use Rattle.bench_listing.specs.Listing.{listing, listedReadings}
 
 pub record Listed : Type 0 where
@@ -20,5 +19,5 @@ pub record Listed : Type 0 where
 unfoldable pub listed : (input readings output : List ℕ) → Listed
 listed input readings output =
     if 8000 ≤? length readings && 184040 ≤? length output
-    then record { says = number (length (listing input)); readings = headed (listedReadings input) readings; output = headed (listing input) output }
+    then record { says = number (length (listing input)); readings = putAt 0 (listedReadings input) readings; output = putAt 0 (listing input) output }
     else record { says = refused Room; readings = readings; output = output }

@@ -2,11 +2,12 @@
 use Prim.Native.Nat.{ℕ, _+_, _*_, _%_}
 use mathlib.Core.Bool.{Bool, true, false}
 use mathlib.Core.List.{List, [], _∷_, _++_}
-use lib.ListN.{length, getD, drop}
+use lib.ListN.{length, drop}
 use Rattle.answers.specs.Choices.{if_then_else_, _<?_, _=?_}
 use Rattle.answers.specs.declared.Refusal.{Refusal}
 use Rattle.answers.specs.declared.Refusal.the-variants.{Room, Mode, Odd}
 use Rattle.answers.specs.Numbers.{numberOf}
+use Rattle.line_mode.specs.Modes.{modeOf, byMode}
 use Rattle.line_reader.specs.declared.endings.Ending.{Ending}
 use Rattle.line_reader.specs.declared.endings.Ending.the-variants.{Good, Gap, Cut, Check}
 use Rattle.line_captures.specs.Captures.{attempts}
@@ -16,25 +17,27 @@ use Rattle.bench_listing.specs.Words.{text, decimal, hexDigits}
 
 -- "Input: a mode byte, then readings of four bytes, low first, at most 8 000. Otherwise one line `refused 14` (mode missing or wrong),
 -- `refused 12` (over 32 001 bytes) or `refused 15` (the bytes after the first are no multiple of four), in that order."
-unfoldable pub given : (input : List ℕ) → Given
-given [] = Refused Mode
-given (mode ∷ bytes) =
-    if 1 <? mode then Refused Mode
-    else if 32001 <? length (mode ∷ bytes) then Refused Room
+abbrev pub givenIn : (mode : ℕ) (bytes : List ℕ) → Given
+givenIn mode bytes =
+    if 32001 <? length (mode ∷ bytes) then Refused Room
     else if length bytes % 4 =? 0 then Capture mode
     else Refused Odd
 
--- "readings of four bytes, low first". Fewer than four bytes are no reading.
+unfoldable pub given : (input : List ℕ) → Given
+given [] = Refused Mode
+given (mode ∷ bytes) = byMode (modeOf mode) (λ m. givenIn mode bytes) (Refused Mode)
+
+-- "four bytes, low first" as a number,
+abbrev pub reading : (a b c d : ℕ) → ℕ
+reading a b c d = a + 256 * b + 65536 * c + 16777216 * d
+
+-- and the readings of a row of bytes. Fewer than four bytes are no reading.
 unfoldable pub readingsOf : (bytes : List ℕ) → List ℕ
-readingsOf (a ∷ b ∷ c ∷ d ∷ rest) = (a + 256 * b + 65536 * c + 16777216 * d) ∷ readingsOf rest
+readingsOf (a ∷ b ∷ c ∷ d ∷ rest) = reading a b c d ∷ readingsOf rest
 readingsOf (a ∷ b ∷ c ∷ []) = []
 readingsOf (a ∷ b ∷ []) = []
 readingsOf (a ∷ []) = []
 readingsOf [] = []
-
--- The reading whose four bytes stand in a list from an index on.
-abbrev pub readingFrom : (bytes : List ℕ) (at : ℕ) → ℕ
-readingFrom bytes at = getD bytes at 0 + 256 * getD bytes (at + 1) 0 + 65536 * getD bytes (at + 2) 0 + 16777216 * getD bytes (at + 3) 0
 
 -- "The zero page alone gives `1 good 000000000000` (12 hex digits, small letters) as its line; other words are `gap` and `check`", and
 -- `cut` in the example.

@@ -1,15 +1,17 @@
 // From the bytes of the input to the bytes of the listing.
 ghost use mathlib.Core.Path.{_≡_};
 ghost use Prim.Native.Nat.{_+_, _<_, _≤_};
-ghost use lib.ListN.{length, drop};
-ghost use Rattle.answers.specs.Answers.{said};
-ghost use Rattle.bench_listing.specs.Placing.{Puts, headed};
-ghost use Rattle.bench_listing.specs.Listing.{given, readingsOf, readingFrom, listing, listedReadings};
+ghost use lib.ListN.{length, getD, drop};
+ghost use Rattle.answers.specs.Answers.{said, putAt};
+ghost use Rattle.bench_listing.specs.Placing.{Puts};
+ghost use Rattle.bench_listing.specs.Listing.{givenIn, given, reading, readingsOf, listing, listedReadings};
 ghost use Rattle.bench_listing.specs.Calls.{listed};
 use crate::capture::list_capture;
 use crate::text::put_refusal;
 use answers::Answer;
 use answers::Refusal;
+use line_mode::Found;
+use line_mode::mode_of;
 
 // Room for every listing: a first and a last line of 20 bytes and 8 000 lines of 23 bytes.
 const MOST_BYTES: usize = 184040;
@@ -31,7 +33,7 @@ fn wide(byte: u8) -> u32
 // Four bytes from an index on, as a number.
 fn reading_at(input: &[u8], at: usize) -> u32
     requires { ⌜ at + 4 ≤ length (now input) ⌝ }
-    ensures { λ r. ⌜ r ≡ readingFrom (now (input .entry)) at ⌝ }
+    ensures { λ r. ⌜ r ≡ reading (getD (now (input .entry)) at 0) (getD (now (input .entry)) (at + 1) 0) (getD (now (input .entry)) (at + 2) 0) (getD (now (input .entry)) (at + 3) 0) ⌝ }
 {
     let a = wide(input[at]);
     let b = wide(input[at + 1]);
@@ -43,7 +45,7 @@ fn reading_at(input: &[u8], at: usize) -> u32
 // The readings of all bytes after the first, at the head of a list that has room for them.
 fn decode(input: &[u8], readings: &mut [u32]) -> usize
     requires { ⌜ (1 ≤ length (now input)) × (length (now input) ≤ 32001) × (8000 ≤ length (now readings)) ⌝ }
-    ensures contents { λ _. ⌜ now (readings .exit) ≡ headed (readingsOf (drop 1 (now (input .entry)))) (now (readings .entry)) ⌝ }
+    ensures contents { λ _. ⌜ now (readings .exit) ≡ putAt 0 (readingsOf (drop 1 (now (input .entry)))) (now (readings .entry)) ⌝ }
     ensures count { λ r. ⌜ r ≡ length (readingsOf (drop 1 (now (input .entry)))) ⌝ }
     ensures few { λ r. ⌜ r ≤ 8000 ⌝ }
 {
@@ -56,17 +58,11 @@ fn decode(input: &[u8], readings: &mut [u32]) -> usize
     count
 }
 
-// What is given: an input that is refused, or a capture in a mode.
-fn what_is_given(input: &[u8]) -> Given
-    ensures { λ r. ⌜ r ≡ given (now (input .entry)) ⌝ }
+// What is given in a mode that there is: it stands or falls by its length.
+fn given_in(input: &[u8], mode: u32) -> Given
+    requires { ⌜ 1 ≤ length (now input) ⌝ }
+    ensures { λ r. ⌜ r ≡ givenIn mode (drop 1 (now (input .entry))) ⌝ }
 {
-    if input.len() == 0 {
-        return Given::Refused(Refusal::Mode);
-    }
-    let mode = wide(input[0]);
-    if 1 < mode {
-        return Given::Refused(Refusal::Mode);
-    }
     if 32001 < input.len() {
         return Given::Refused(Refusal::Room);
     }
@@ -76,11 +72,25 @@ fn what_is_given(input: &[u8]) -> Given
     Given::Refused(Refusal::Odd)
 }
 
+// What is given: an input that is refused, or a capture in a mode.
+fn what_is_given(input: &[u8]) -> Given
+    ensures { λ r. ⌜ r ≡ given (now (input .entry)) ⌝ }
+{
+    if input.len() == 0 {
+        return Given::Refused(Refusal::Mode);
+    }
+    let mode = wide(input[0]);
+    match mode_of(mode) {
+        Found::Known(known) => given_in(input, mode),
+        Found::Unknown => Given::Refused(Refusal::Mode),
+    }
+}
+
 // The listing of an input, into lists that hold every one.
 fn list_input(input: &[u8], readings: &mut [u32], output: &mut [u8]) -> usize
     requires { ⌜ (8000 ≤ length (now readings)) × (184040 ≤ length (now output)) ⌝ }
     ensures text { λ r. ⌜ Puts (now (output .entry)) 0 (listing (now (input .entry))) (now (output .exit)) r ⌝ }
-    ensures readings { λ _. ⌜ now (readings .exit) ≡ headed (listedReadings (now (input .entry))) (now (readings .entry)) ⌝ }
+    ensures readings { λ _. ⌜ now (readings .exit) ≡ putAt 0 (listedReadings (now (input .entry))) (now (readings .entry)) ⌝ }
 {
     match what_is_given(input) {
         Given::Refused(refusal) => put_refusal(output, refusal),

@@ -27,9 +27,9 @@ use Rattle.line_mode.specs.Gaps.{judgementOf}
 use Rattle.line_writer.specs.Transitions.{sentBits, transitions}
 use Rattle.line_reader.specs.Pattern.{asks}
 use Rattle.line_reader.specs.Reading.{step, withBit, arrives, goesOn, edgeOf, heardAlong}
-use Rattle.line_captures.specs.ReadingBack.{gapsAfter, gaps, onlyLast}
+use Rattle.line_captures.specs.ReadingBack.{gapsAfter, gaps}
 use Rattle.line_captures.proofs.JudgedGaps as judged
-use Rattle.line_captures.proofs.EdgeRuns.{Carried, all-inside}
+use Rattle.line_captures.proofs.EdgeRuns.{afterSilence, Carried, all-inside}
 use Rattle.line_captures.proofs.GapMachine.{passes, bitsAfter, pass, gapsOf, page-bits, only-pages}
 use Rattle.line_captures.proofs.SentGaps.{transition-gaps}
 use Rattle.line_captures.proofs.ReadBits.{pushed-all, agreeing}
@@ -112,7 +112,7 @@ module _ (m : LineMode) (p x bits w y : ℕ) where
       }
 
 -- Every edge of an attempt that says nothing until it says a page is a count that the pattern asks for.
-walked : (m : LineMode) (n p x bits w : ℕ) (edges : List ℕ) → heardAlong m (Open p x bits) edges ≡ onlyLast n (Ended (Good w)) → Walk m p x bits w edges
+walked : (m : LineMode) (n p x bits w : ℕ) (edges : List ℕ) → heardAlong m (Open p x bits) edges ≡ afterSilence n (Ended (Good w)) → Walk m p x bits w edges
 unfolding edgeOf
 walked m zero p x bits w [] h = absurd (let z : _≡_ {A = ℕ} 0 1 = cc h in omega arith)
 walked m (suc n) p x bits w [] h = absurd (let z : _≡_ {A = ℕ} 0 1 = cc h in omega arith)
@@ -123,7 +123,7 @@ walked m (suc n) p x bits w (y ∷ edges) h =
     (λ k e. walked m n (p + k) y (withBit p k bits) w edges (ap (λ (r : Reader). heardAlong m r edges) (sym e) ∙ cc h)) (cc h)
 
 -- So an attempt that is read as a page was sent.
-pub only-carried : (m : LineMode) (n w x : ℕ) (edges : List ℕ) → heardAlong m (Open 1 x 0) edges ≡ onlyLast n (Ended (Good w)) → Carried m w (x ∷ edges)
+pub only-carried : (m : LineMode) (n w x : ℕ) (edges : List ℕ) → heardAlong m (Open 1 x 0) edges ≡ afterSilence n (Ended (Good w)) → Carried m w (x ∷ edges)
 only-carried m n w x edges h =
     let walk = walked m n 1 x 0 w edges h in
     let page = only-pages m (walk .counts) (walk .through) in

@@ -25,8 +25,8 @@ use Rattle.line_reader.specs.Reading.{step, withBit, arrives, goesOn, dropsOn, 
 use Rattle.line_mode.proofs.Windows.{Apart, counts-quiet}
 use Rattle.line_writer.proofs.SentBits.{sent-length}
 use Rattle.line_captures.proofs.JudgedGaps.{all-judged}
-use Rattle.line_captures.specs.ReadingBack.{gapsAfter, gaps, Carries, onlyLast}
-use Rattle.line_captures.proofs.EdgeRuns.{lastOf, HeardLast, InWindow, all-near}
+use Rattle.line_captures.specs.ReadingBack.{gapsAfter, gaps, Carries}
+use Rattle.line_captures.proofs.EdgeRuns.{lastOf, afterSilence, HeardLast, InWindow, all-near}
 use Rattle.line_captures.proofs.GapMachine.{passes, bitsAfter, Passed, passed, none-past, gapsOf, page-passes, page-bits}
 use Rattle.line_captures.proofs.SentGaps.{transition-gaps}
 use Rattle.line_captures.proofs.ReadBits.{pushed-all, sent-agrees, sent-word}
@@ -74,7 +74,7 @@ edge-more m r next after x y rest heard e h =
     record {
       told =
           ap (λ (b : Step). b .heard ∷ heardAlong m (b .reader) (y ∷ rest)) e ∙ ap (λ (l : List Heard). Nothing ∷ l) (h .told)
-          ∙ ap (λ (n : ℕ). onlyLast n heard) (let f : suc (suc (length rest) - 1) ≡ suc (suc (length rest)) - 1 = omega arith in f);
+          ∙ ap (λ (n : ℕ). afterSilence n heard) (let f : suc (suc (length rest) - 1) ≡ suc (suc (length rest)) - 1 = omega arith in f);
       left = ap (λ (b : Step). readerAfter m (b .reader) (y ∷ rest)) e ∙ h .left;
     }
 

@@ -21,13 +21,13 @@ use Rattle.line_reader.specs.Reading.{dropsOn, edgeOf, heardAlong, readerAfter}
 use Rattle.line_captures.specs.declared.captures.ReadOutcome.{ReadOutcome}
 use Rattle.line_captures.specs.declared.captures.ReadOutcome.the-variants.{Attempt}
 use Rattle.line_captures.specs.Captures.{isOpen, opensAt, endsAt, attemptOf}
-use Rattle.line_captures.specs.ReadingBack.{onlyLast, BeginsWith}
-use Rattle.line_captures.proofs.EdgeRuns.{HeardLast, Carried}
+use Rattle.line_captures.specs.ReadingBack.{BeginsWith}
+use Rattle.line_captures.proofs.EdgeRuns.{afterSilence, HeardLast, Carried}
 use Rattle.line_captures.proofs.OnlyPages.{only-carried}
 
 -- Edges at which nothing is heard until the last, and there an ending: so ends the capture's first attempt, whatever edges follow.
 module _ (m : LineMode) (ending : Ending) (rest : List ℕ) where
-  first-ending : (n : ℕ) (r : Reader) (edges : List ℕ) (at : ℕ) → heardAlong m r edges ≡ onlyLast n (Ended ending) → isOpen (readerAfter m r edges) ≡ false
+  first-ending : (n : ℕ) (r : Reader) (edges : List ℕ) (at : ℕ) → heardAlong m r edges ≡ afterSilence n (Ended ending) → isOpen (readerAfter m r edges) ≡ false
       → attemptOf m r (edges ++ rest) at ≡ Attempt ending (opensAt m (readerAfter m r edges) rest (at + length edges))
   unfolding attemptOf opensAt
   first-ending zero r [] at h o = absurd (let z : _≡_ {A = ℕ} 0 1 = cc h in omega arith)
@@ -64,7 +64,7 @@ record HeardPage (m : LineMode) (r : Reader) (w : ℕ) (capture : List ℕ) : Ty
   behind : List ℕ
   whole : capture ≡ edges ++ behind
   silent : ℕ
-  told : heardAlong m r edges ≡ onlyLast silent (Ended (Good w))
+  told : heardAlong m r edges ≡ afterSilence silent (Ended (Good w))
 
 -- So does one that is answered a page;
 answered-page : (m : LineMode) (w : ℕ) (r : Reader) (capture : List ℕ) (at next : ℕ) → attemptOf m r capture at ≡ Attempt (Good w) next
@@ -96,7 +96,7 @@ answered-page m w r (x ∷ rest) at next h = by (edgeOf m r x .heard) refl (answ
         }
 
 -- and from a fresh reader on they carry its word: the first edge has opened the attempt.
-fresh-page : (m : LineMode) (w : ℕ) (edges : List ℕ) (n : ℕ) → heardAlong m Fresh edges ≡ onlyLast n (Ended (Good w)) → Carried m w edges
+fresh-page : (m : LineMode) (w : ℕ) (edges : List ℕ) (n : ℕ) → heardAlong m Fresh edges ≡ afterSilence n (Ended (Good w)) → Carried m w edges
 unfolding edgeOf
 fresh-page m w [] zero h = absurd (let z : _≡_ {A = ℕ} 0 1 = cc h in omega arith)
 fresh-page m w [] (suc n) h = absurd (let z : _≡_ {A = ℕ} 0 1 = cc h in omega arith)

@@ -4,6 +4,7 @@ use mathlib.Core.Path.{_≡_, sym, ap, _∙_}
 use mathlib.Core.List.{List, [], _∷_, _++_, append-nil}
 use Prim.Native.Nat.{ℕ, _+_, _-_, _*_, _%_, _^_, _<_, _≤_}
 use lib.ListN.{length, drop}
+use Rattle.answers.specs.Answers.{putAt}
 use Rattle.line_mode.specs.declared.modes.LineMode.{LineMode}
 use Rattle.line_reader.specs.declared.endings.Ending.the-variants.{Good, Cut}
 use Rattle.line_reader.specs.declared.endings.Heard.the-variants.{Ended}
@@ -13,7 +14,6 @@ use Rattle.line_reader.specs.declared.reader.Reader.the-variants.{Fresh, Open, 
 use Rattle.line_mode.specs.Clock.{timeBetween}
 use Rattle.line_mode.specs.Modes.{hsmMode, lsmMode}
 use Rattle.line_writer.specs.Transitions.{readingAt, readings, edgeCount}
-use Rattle.line_writer.specs.Writing.{placed}
 use Rattle.line_reader.specs.Reading.{step, edgeOf, readerAfter}
 use Rattle.line_reader.proofs.ClockShift.{later, edge-later}
 use Rattle.line_mode.proofs.Windows.{Apart, hsm-apart, lsm-apart}
@@ -47,7 +47,7 @@ pub record ReadsBack (m : LineMode) : Type 0 where
       ≡ Attempt (Good w) (opensAt m (Dropping (readingAt (m .spacing) first 157)) rest (at + edgeCount m w))
   -- and so it is by the read call at the place where the write call put it, if there was room.
   pub placed-back : (list : List ℕ) (place w first : ℕ) → w < 2 ^ 48 → 4 * m .spacing < 2 ^ 32 → place + edgeCount m w ≤ length list
-      → readIn m (placed m list place w first) place
+      → readIn m (putAt place (readings m w first) list) place
       ≡ Attempt (Good w) (opensAt m (Dropping (readingAt (m .spacing) first 157)) (drop (place + edgeCount m w) list) (place + edgeCount m w))
   -- A shift of all readings modulo 2^32 is not seen: the same is heard, and the reader is shifted.
   pub shifted : (δ : ℕ) (r : Reader) (x : ℕ) → edgeOf m (later δ r) ((x + δ) % 2 ^ 32) ≡ step (edgeOf m r x .heard) (later δ (edgeOf m r x .reader))

@@ -29,7 +29,7 @@ use Rattle.line_captures.specs.declared.captures.ReadOutcome.the-variant
 use Rattle.line_captures.specs.Captures.{saidOfRead, isOpen, attemptOf, readIn}
 use Rattle.line_captures.specs.ReadingBack.{Carries, onlyLast, BeginsWith, ReadingBack}
 use Rattle.line_captures.proofs.SaysPage.{heard-page, read-page}
-use Rattle.line_captures.proofs.EdgeRuns.{lastOf}
+use Rattle.line_captures.proofs.EdgeRuns.{lastOf, afterSilence, at-last}
 use Rattle.line_captures.proofs.ReadBack.{as-many, opened-reads, fresh-reads, dropping-opens, open-opens}
 use Rattle.line_captures.proofs.ReadCaptures.{page-answer, answered-carried}
 use Rattle.line_captures.proofs.SinceOpened.{after-append, LastAt, held, dropped, last-at, page-heard}
@@ -37,7 +37,7 @@ use Rattle.line_captures.proofs.WriteThenRead.{written-carries, write-t
 use Rattle.line_captures.proofs.Walk.{walk-step, read-known, attempts-told}
 
 -- Two that are heard after as much silence are equal.
-same-last : (n : ℕ) (s t : Heard) → onlyLast n s ≡ onlyLast n t → s ≡ t
+same-last : (n : ℕ) (s t : Heard) → afterSilence n s ≡ afterSilence n t → s ≡ t
 same-last zero s t h = cc h
 same-last (suc n) s t h = same-last n s t (cc h)
 
@@ -85,7 +85,7 @@ pub reading-back : (mode : ℕ) (m : LineMode) → modeOf mode ≡ Known m → A
 reading-back mode m known apart clock =
     record {
       nominal = λ w first. written-carries m first clock w;
-      fresh = λ w edges word carried. fresh-reads m apart w word edges carried .told;
+      fresh = λ w edges word carried. at-last m Fresh edges (Ended (Good w)) (fresh-reads m apart w word edges carried .told);
       after-quiet = λ past last x w edges q word carried.
           after (readerAfter m Fresh (past ++ (last ∷ []))) x w edges
           (quiet-opens m apart (readerAfter m Fresh (past ++ (last ∷ []))) last x
@@ -104,10 +104,10 @@ reading-back mode m known apart clock =
     }
   where
     after : (r : Reader) (x w : ℕ) (edges : List ℕ) → edgeOf m r x ≡ step (cond (isOpen r) (Ended Cut) Nothing) (Open 1 x 0) → w < 2 ^ 48 → Carries m w (x ∷ edges)
-        → heardAlong m r (x ∷ edges) ≡ cond (isOpen r) (Ended Cut) Nothing ∷ onlyLast (length edges - 1) (Ended (Good w))
+        → heardAlong m r (x ∷ edges) ≡ cond (isOpen r) (Ended Cut) Nothing ∷ onlyLast edges (Ended (Good w))
     after r x w edges e word carried =
         ap (λ (b : Step). b .heard ∷ heardAlong m (b .reader) edges) e
-        ∙ ap (λ (l : List Heard). cond (isOpen r) (Ended Cut) Nothing ∷ l) (opened-reads m apart w word x edges carried .told)
+        ∙ ap (λ (l : List Heard). cond (isOpen r) (Ended Cut) Nothing ∷ l) (at-last m (Open 1 x 0) edges (Ended (Good w)) (opened-reads m apart w word x edges carried .told))
 
 pub high-speed-back : ReadingBack 0 hsmMode
 unfolding modeOf

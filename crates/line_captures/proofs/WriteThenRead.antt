@@ -3,16 +3,16 @@
 use mathlib.Core.Path.{_≡_, refl, sym, ap, ap₂, _∙_, subst}
 use mathlib.Core.Bool.{Bool, true, false, not}
 use mathlib.Core.List.{List, [], _∷_, _++_, map, map-append, Forall₂, Forall₂·nil, Forall₂·cons}
-use Prim.Native.Nat.{ℕ, _+_, _-_, _*_, _%_, _^_, _<_, _≤_}
+use Prim.Native.Nat.{ℕ, zero, suc, _+_, _-_, _*_, _%_, _^_, _<_, _≤_}
 use native.Mathlib.Nat.{add-mul, mul-le-mul-right}
 use native.Mathlib.Omega.{arith}
 use lib.Dec.{eqb, ltb}
-use lib.ListN.{length, take, drop, length-map, length-append}
+use lib.ListN.{length, take, drop, length-append}
 use lib.Seq.{drop-at, length-take-le}
 use borrow.Author.Tests.{le-ltb, ne-eqb, leb-false, ltb-false}
 use Rattle.page_word.specs.Word.{isWide}
 use Rattle.answers.specs.Choices.{if_then_else_}
-use Rattle.answers.specs.Answers.{Said, number, pageRead, Leaves, leaving, kept}
+use Rattle.answers.specs.Answers.{Said, number, pageRead, Leaves, leaving, putAt, kept}
 use Rattle.answers.specs.declared.Refusal.the-variants.{Room, Wide, Mode}
 use Rattle.line_mode.specs.declared.modes.LineMode.{LineMode}
 use Rattle.line_reader.specs.declared.endings.Ending.the-variants.{Good}
@@ -25,13 +25,13 @@ use Rattle.line_mode.specs.Clock.{timeBetween}
 use Rattle.line_page.specs.Pattern.{delimiterOf, hsmDelimiter, lsmDelimiter}
 use Rattle.line_page.proofs.Positions.{by-delimiter}
 use Rattle.line_writer.specs.Transitions.{transitions, sentBits, hasTransition, positionsTo, readingAt, readings, edgeCount}
-use Rattle.line_writer.specs.Writing.{placed, writeIn, writeOf}
+use Rattle.line_writer.specs.Writing.{writeIn, writeOf}
 use Rattle.line_captures.specs.Captures.{saidOfRead, opensAt, attemptOf, readIn, readOf}
 use Rattle.line_mode.proofs.Windows.{Apart, Near, hsm-apart, lsm-apart}
 use Rattle.line_writer.proofs.SentBits.{sent-length}
 use Rattle.line_writer.proofs.PagePattern.{at-clock}
 use Rattle.line_writer.proofs.WritingLoop.{more-yes}
-use Rattle.line_writer.proofs.WrittenList.{has-edges}
+use Rattle.line_writer.proofs.WrittenList.{count-written, page-put, has-edges}
 use Rattle.line_captures.specs.ReadingBack.{gapsAfter, gaps, Carries}
 use Rattle.line_captures.proofs.EdgeRuns.{lastOf, all-inside}
 use Rattle.line_captures.proofs.GapMachine.{passes, passed, page-passes}
@@ -48,14 +48,16 @@ module _ (m : LineMode) (first : ℕ) (clock : 4 * m .spacing < 2 ^ 32) where
   -- The time between the readings of two positions is so many spacings,
   nominal : (p q : ℕ) → 1 ≤ p → 1 ≤ q - p → q - p ≤ 4
       → timeBetween (readingAt (m .spacing) first q) (readingAt (m .spacing) first p) ≡ (q - p) * m .spacing
-  nominal p q h l u =
-      ap (λ (n : ℕ). timeBetween (n % 2 ^ 32) (readingAt (m .spacing) first p)) sum
-      ∙ time-of-distance (first + (p - 1) * m .spacing) ((q - p) * m .spacing) (let b = mul-le-mul-right (m .spacing) u in omega arith)
+  nominal zero q h l u = absurd (omega arith)
+  nominal (suc p) zero h l u = absurd (omega arith)
+  nominal (suc p) (suc q) h l u =
+      ap (λ (n : ℕ). timeBetween (n % 2 ^ 32) (readingAt (m .spacing) first (suc p))) sum
+      ∙ time-of-distance (first + p * m .spacing) ((suc q - suc p) * m .spacing) (let b = mul-le-mul-right (m .spacing) u in omega arith)
     where
-      sum : first + (q - 1) * m .spacing ≡ first + (p - 1) * m .spacing + (q - p) * m .spacing
+      sum : first + q * m .spacing ≡ first + p * m .spacing + (suc q - suc p) * m .spacing
       sum =
-          ap (λ (n : ℕ). first + n * m .spacing) (let e : q - 1 ≡ p - 1 + (q - p) = omega arith in e)
-          ∙ ap (λ (n : ℕ). first + n) (add-mul (p - 1) (q - p) (m .spacing)) ∙ omega arith
+          ap (λ (n : ℕ). first + n * m .spacing) (let e : q ≡ p + (suc q - suc p) = omega arith in e)
+          ∙ ap (λ (n : ℕ). first + n) (add-mul p (suc q - suc p) (m .spacing)) ∙ omega arith
 
   -- and these lie in their window.
   at-nominal : (k gap : ℕ) → gap ≡ k * m .spacing → Near m k gap
@@ -106,11 +108,6 @@ last-written m w first =
     ∙ ap (lastOf 0) (map-append (readingAt (m .spacing) first) (positionsTo (hasTransition m (sentBits w)) 156) (157 ∷ []))
     ∙ last-appended 0 (readingAt (m .spacing) first 157) (map (readingAt (m .spacing) first) (positionsTo (hasTransition m (sentBits w)) 156))
 
--- There are as many as transitions.
-pub count-written : (m : LineMode) (w first : ℕ) → length (readings m w first) ≡ edgeCount m w
-unfolding readings edgeCount
-count-written m w first = length-map (transitions m w) (readingAt (m .spacing) first)
-
 module _ (m : LineMode) (apart : Apart m) (clock : 4 * m .spacing < 2 ^ 32) (w first : ℕ) (word : w < 2 ^ 48) where
   -- A written page is read, whatever follows it,
   pub written-read : (at : ℕ) (rest : List ℕ)
@@ -123,7 +120,7 @@ module _ (m : LineMode) (apart : Apart m) (clock : 4 * m .spacing < 2 ^ 32) (w f
 
   -- and so it is by the read call at the place where the write call put it.
   pub placed-read : (list : List ℕ) (place : ℕ) → place + edgeCount m w ≤ length list
-      → readIn m (placed m list place w first) place
+      → readIn m (putAt place (readings m w first) list) place
       ≡ Attempt (Good w) (opensAt m (Dropping (readingAt (m .spacing) first 157)) (drop (place + edgeCount m w) list) (place + edgeCount m w))
   unfolding readIn
   placed-read list place room =
@@ -132,7 +129,11 @@ module _ (m : LineMode) (apart : Apart m) (clock : 4 * m .spacing < 2 ^ 32) (w f
       let tail = length-append (readings m w first) (drop (place + edgeCount m w) list) in
       let count = count-written m w first in
       let all = length-append (take place list) (readings m w first ++ drop (place + edgeCount m w) list) in
-      rw (le-ltb (length (placed m list place w first)) place (omega arith), ne-eqb place (length (placed m list place w first)) (λ e. omega arith))
+      ap (λ (l : List ℕ). readIn m l place) (page-put m list place w first)
+      ∙ rw (
+        le-ltb (length (take place list ++ (readings m w first ++ drop (place + edgeCount m w) list))) place (omega arith),
+        ne-eqb place (length (take place list ++ (readings m w first ++ drop (place + edgeCount m w) list))) (λ e. omega arith),
+      )
       (ap (λ (l : List ℕ). attemptOf m Fresh l place) (drop-at (take place list) (readings m w first ++ drop (place + edgeCount m w) list) place head)
       ∙ written-read place (drop (place + edgeCount m w) list))
 
@@ -143,7 +144,7 @@ unfolding writeIn
 in-mode m apart clock list place w first n h = by (isWide w) refl (ltb (length list) (place + edgeCount m w)) refl h
   where
     write : (t s : Bool) → Leaves
-    write t s = if t then kept Wide list else if s then kept Room list else leaving (number (edgeCount m w)) (placed m list place w first)
+    write t s = if t then kept Wide list else if s then kept Room list else leaving (number (edgeCount m w)) (putAt place (readings m w first) list)
 
     by : (t : Bool) → isWide w ≡ t → (s : Bool) → ltb (length list) (place + edgeCount m w) ≡ s
         → write t s .says ≡ number n → saidOfRead (readIn m (write t s .list) place) ≡ pageRead w

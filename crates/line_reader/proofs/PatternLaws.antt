@@ -59,10 +59,11 @@ blocked m p (suc n) j h l a = by (blocked m p n j h) (eqb j (suc n)) refl
         let ne = eqb-false j (suc n) e in
         rw (ih (omega arith) a) (and-false (not (has (standsAt m (p + suc n)) false)))
 
-ruled-out : (m : LineMode) (at k j : ℕ) → 1 ≤ j → j ≤ k - 1 → standsAt m (at + j) ≡ always → asks m at k ≡ false
+ruled-out : (m : LineMode) (at k j : ℕ) → 1 ≤ j → j < k → standsAt m (at + j) ≡ always → asks m at k ≡ false
 unfolding asks
-ruled-out m at k j h l a =
-    rw (blocked m at (k - 1) j h l a, and-false (has (standsAt m (at + k)) true)) (and-false (has (standsAt m at) true))
+ruled-out m at zero j h l a = refl
+ruled-out m at (suc n) j h l a =
+    rw (blocked m at n j h (omega arith) a, and-false (has (standsAt m (at + suc n)) true)) (and-false (has (standsAt m at) true))
 
 module _ (m : LineMode) (at k : ℕ) (s : Small k) where
   -- After a bit's own edge comes the next clock.
@@ -120,13 +121,14 @@ module _ (m : LineMode) (at k : ℕ) (s : Small k) where
   -- and from 156 on nothing.
   pub after-end : 155 < at → asks m at k ≡ false
   unfolding asks
-  after-end h = by (eqb at 157) refl
+  after-end h = by k (eqb at 157) refl
     where
-      by : (t : Bool) → eqb at 157 ≡ t → asks m at k ≡ false
-      by true q =
+      by : (n : ℕ) (t : Bool) → eqb at 157 ≡ t → asks m at n ≡ false
+      by zero t q = refl
+      by (suc n) true q =
           let e = eqb-true at 157 q in
-          rw (at-none m (at + k) (omega arith) (λ o. omega arith) (λ o. omega arith)) (and-false (has (standsAt m at) true))
-      by false q = rw (at-none m at (omega arith) (λ o. omega arith) (eqb-false at 157 q))
+          rw (at-none m (at + suc n) (omega arith) (λ o. omega arith) (λ o. omega arith)) (and-false (has (standsAt m at) true))
+      by (suc n) false q = rw (at-none m at (omega arith) (λ o. omega arith) (eqb-false at 157 q))
 
 -- What the code's shifts give.
 pub two-shifted : (k : ℕ) → k < 63 → 2 * 2 ^ k % 2 ^ 64 ≡ 2 ^ (k + 1)

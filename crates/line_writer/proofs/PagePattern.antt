@@ -1,10 +1,11 @@
 -- The four kinds of positions of a page, and the mask of its delimiter.
 use mathlib.Core.Path.{_≡_, refl, sym, ap, _∙_}
 use mathlib.Core.Bool.{Bool, true, false, Bool·beq}
-use mathlib.Core.List.{List}
+use mathlib.Core.List.{List, _++_}
 use Prim.Native.Nat.{ℕ, _+_, _-_, _/_, _%_, _^_, _<_, _≤_}
 use native.Mathlib.Omega.{arith}
-use lib.ListN.{getD}
+use lib.ListN.{getD, replicate}
+use lib.Seq.{getD-append-add}
 use Rattle.answers.specs.Choices.{if_then_else_}
 use Rattle.page_word.specs.Word.{odd, among}
 use Rattle.page_word.proofs.ComputedTest.{everyBelow, at-each, beq-equal}
@@ -21,7 +22,7 @@ module _ (m : LineMode) (bits : List Bool) (p : ℕ) where
   unfolding hasTransition
   in-delimiter h = rw (positions.in-delimiter m p h) (by (among p (delimiterOf m)))
     where
-      by : (t : Bool) → has (if t then always else never) (getD bits ((p - 28) / 2) false) ≡ t
+      by : (t : Bool) → has (if t then always else never) (getD (replicate 14 false ++ bits) (p / 2) false) ≡ t
       by true = refl
       by false = refl
 
@@ -31,7 +32,10 @@ module _ (m : LineMode) (bits : List Bool) (p : ℕ) where
 
   pub at-bit : 26 < p → p ≤ 154 → (p % 2 ≡ 1 → ⊥) → hasTransition m bits p ≡ getD bits ((p - 28) / 2) false
   unfolding hasTransition
-  at-bit h l e = rw (at-even m p h l (omega arith))
+  at-bit h l e =
+      rw (at-even m p h l (omega arith))
+      (ap (λ (n : ℕ). getD (replicate 14 false ++ bits) n false) (let half : p / 2 ≡ 14 + (p - 28) / 2 = omega arith in half)
+      ∙ getD-append-add (replicate 14 false) bits ((p - 28) / 2) false)
 
   pub at-156 : 154 < p → p ≤ 157 → (p % 2 ≡ 1 → ⊥) → hasTransition m bits p ≡ false
   unfolding hasTransition

@@ -84,7 +84,7 @@ module _ (m : LineMode) (word first : ℕ) (before list : List ℕ) (clock count
     -- The next position's reading is the clock.
     now-reading : reading (suc passed) ≡ clock
     unfolding reading
-    now-reading = ap (λ (n : ℕ). (first + n * m .spacing) % 2 ^ 32) (let e : suc passed - 1 ≡ passed = omega arith in e) ∙ sym (g .time)
+    now-reading = sym (g .time)
 
     -- A transition that is not yet written has an entry to go to.
     pub room : hasTransition m (sentBits word) (passed + 1) ≡ true → length (positionsTo (hasTransition m (sentBits word)) 157) ≤ length before

@@ -1,21 +1,32 @@
 -- What the write call says and leaves: Wide, no room, and room, in a mode's numbers; and the lent tail put back into its list.
-use mathlib.Core.Path.{_≡_, ap, ap₂, _∙_, subst}
+use mathlib.Core.Path.{_≡_, sym, ap, ap₂, _∙_, subst}
 use mathlib.Core.Bool.{Bool, true, false, cond}
-use mathlib.Core.List.{List, _++_, append-nil}
+use mathlib.Core.List.{List, _++_, append-nil, append-assoc}
 use Prim.Native.Nat.{ℕ, _+_, _-_, _^_, _<_, _≤_}
 use native.Mathlib.Omega.{arith}
-use lib.ListN.{length, take, drop, length-drop, drop-of-length-le}
+use lib.ListN.{length, take, drop, length-drop, length-map, drop-of-length-le}
 use lib.Seq.{drop-drop}
 use borrow.Author.Tests.{lt-ltb, le-ltb, lt-leb, le-leb}
-use Rattle.answers.specs.Answers.{Said, refused, number}
+use Rattle.answers.specs.Answers.{Said, refused, number, putAt}
 use Rattle.answers.specs.declared.Refusal.the-variants.{Room, Wide}
 use Rattle.line_mode.specs.declared.modes.LineMode.{LineMode}
-use Rattle.line_writer.specs.Transitions.{readings, edgeCount, transitions}
-use Rattle.line_writer.specs.Writing.{placed, writeIn}
+use Rattle.line_writer.specs.Transitions.{readingAt, readings, edgeCount, transitions}
+use Rattle.line_writer.specs.Writing.{writeIn}
 use Rattle.line_writer.proofs.LentTail.{whole-tail}
 use Rattle.line_writer.proofs.EdgeCount.{edge-count}
 
+-- There are as many readings as transitions.
+pub count-written : (m : LineMode) (w first : ℕ) → length (readings m w first) ≡ edgeCount m w
+unfolding readings edgeCount
+count-written m w first = length-map (transitions m w) (readingAt (m .spacing) first)
+
 module _ (m : LineMode) (list : List ℕ) (place w first : ℕ) where
+  -- The list with a page's readings in it.
+  pub page-put : putAt place (readings m w first) list ≡ take place list ++ (readings m w first ++ drop (place + edgeCount m w) list)
+  page-put =
+      append-assoc (take place list) (readings m w first) (drop (place + length (readings m w first)) list)
+      ∙ ap (λ (n : ℕ). take place list ++ (readings m w first ++ drop (place + n) list)) (count-written m w first)
+
   -- What a call says and leaves.
   pub record Outcome (says : Said) (leaves : List ℕ) : Type 0 where
     pub said : says ≡ writeIn m list place w first .says
@@ -74,9 +85,10 @@ module _ (m : LineMode) (list : List ℕ) (place w first : ℕ) where
             enough : place + edgeCount m w ≤ length list
             enough = let e = has-edges in omega arith
 
-            put-back : take place list ++ (tail ++ drop (length list - place) (drop place list)) ≡ placed m list place w first
+            put-back : take place list ++ (tail ++ drop (length list - place) (drop place list)) ≡ putAt place (readings m w first) list
             put-back =
                 ap₂ (λ (t r : List ℕ). take place list ++ (t ++ r)) (e ∙ ap (λ (t : List ℕ). readings m w first ++ drop (edgeCount m w) t) lent)
                 (drop-of-length-le (drop place list) {i = length list - place} (omega (arith, length-drop place list)))
                 ∙ ap (λ (t : List ℕ). take place list ++ t) (append-nil (readings m w first ++ drop (edgeCount m w) (drop place list))
                 ∙ ap (λ (t : List ℕ). readings m w first ++ t) (drop-drop (edgeCount m w) place list))
+                ∙ sym page-put

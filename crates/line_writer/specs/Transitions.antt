@@ -1,8 +1,8 @@
 -- 01, "The line": where a page's transitions are, and when.
-use Prim.Native.Nat.{ℕ, zero, suc, _+_, _-_, _*_, _/_, _%_, _^_}
+use Prim.Native.Nat.{ℕ, zero, suc, _+_, _*_, _/_, _%_, _^_}
 use mathlib.Core.Bool.{Bool, false}
 use mathlib.Core.List.{List, [], _∷_, _++_, map}
-use lib.ListN.{length, getD}
+use lib.ListN.{length, getD, replicate}
 use Rattle.answers.specs.Choices.{if_then_else_}
 use Rattle.page_word.specs.Word.{bitsOf}
 use Rattle.page_check_bits.specs.CheckBits.{checkList}
@@ -13,9 +13,9 @@ use Rattle.line_page.specs.Pattern.{standsAt, has}
 unfoldable pub sentBits : (word : ℕ) → List Bool
 sentBits w = bitsOf 48 w ++ checkList w
 
--- Whether a page with these 64 bits has a transition at a position. The first bit stands at 28, and each other two positions after the last; only where a bit stands, from 28 on, is it looked at.
+-- Whether a page with these 64 bits has a transition at a position. Bits stand at even positions, the first at 28: fourteen even positions, 0 to 26, come before it.
 unfoldable pub hasTransition : (mode : LineMode) (bits : List Bool) (position : ℕ) → Bool
-hasTransition mode bits p = has (standsAt mode p) (getD bits ((p - 28) / 2) false)
+hasTransition mode bits p = has (standsAt mode p) (getD (replicate 14 false ++ bits) (p / 2) false)
 
 -- The positions from 1 to n for which a test holds, in order.
 unfoldable pub positionsTo : (test : ℕ → Bool) (n : ℕ) → List ℕ
@@ -27,9 +27,10 @@ positionsTo test (suc n) =
 unfoldable pub transitions : (mode : LineMode) (word : ℕ) → List ℕ
 transitions mode w = positionsTo (hasTransition mode (sentBits w)) 157
 
--- "at nominal spacing from a given first reading modulo 2^32"
+-- "at nominal spacing from a given first reading modulo 2^32": position 1 has the first reading, and n positions after it there is this. Position 0 there is none.
 abbrev pub readingAt : (spacing first position : ℕ) → ℕ
-readingAt spacing first p = (first + (p - 1) * spacing) % 2 ^ 32
+readingAt spacing first zero = 0
+readingAt spacing first (suc n) = (first + n * spacing) % 2 ^ 32
 
 -- A page's readings, one for each transition.
 unfoldable pub readings : (mode : LineMode) (word first : ℕ) → List ℕ

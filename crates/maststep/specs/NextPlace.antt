@@ -1,5 +1,4 @@
--- What the read call leaves at `*next`, as the fixed interfaces have it: where the next attempt opens; "on 14 and 12 it is left as it was". At the end
--- of the capture it is the place.
+-- What the read call leaves at `*next`: where the next attempt opens; "on 14 and 12 it is left as it was" (fixed interfaces); at the capture's end, the place.
 use Prim.Native.Nat.{ℕ}
 use Rattle.line_captures.specs.declared.captures.ReadOutcome.{ReadOutcome}
 use Rattle.line_captures.specs.declared.captures.ReadOutcome.the-variants.{UnknownMode, PastTheEnd, AtTheEnd, Attempt}

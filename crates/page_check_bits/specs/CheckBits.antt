@@ -51,7 +51,6 @@ checkBits w = numeral (checkList w)
 unfoldable pub agrees : (bits : ℕ) → Bool
 agrees bits = numeral (drop 48 (bitsOf 64 bits)) =? checkBits bits
 
--- The check call. 01, "Refusal numbers", row 13, Wide.
--- The check bits of a word; Wide if it is none.
+-- The check call: the check bits of a word, and for a number that is none row 13 of the refusals, Wide.
 abbrev pub checked : (word : ℕ) → Said
 checked word = if isWide word then refused Wide else number (checkBits word)

@@ -1,5 +1,6 @@
 -- 01, "Registers": "All are 16 bits wide": a page's 48 bits as three of them, "D15-0, D31-16, D47-32".
-use Prim.Native.Nat.{ℕ, _+_, _*_, _/_, _%_, _^_}
+use Prim.Native.Nat.{ℕ, _+_, _*_, _^_}
+use Rattle.page_word.specs.Fields.{part}
 use Rattle.port_state.specs.declared.page_registers.PageRegisters.{PageRegisters}
 use Rattle.port_state.specs.declared.page_registers.Third.{Third}
 use Rattle.port_state.specs.declared.page_registers.Third.the-variants.{Low, Middle, High}
@@ -29,4 +30,4 @@ wordOf r = r .low + (r .middle * 2 ^ 16 + r .high * 2 ^ 32)
 
 -- and a word as three registers.
 abbrev pub registersOf : (word : ℕ) → PageRegisters
-registersOf w = threeOf (w % 2 ^ 16) ((w / 2 ^ 16) % 2 ^ 16) ((w / 2 ^ 32) % 2 ^ 16)
+registersOf w = threeOf (part 0 16 w) (part 16 16 w) (part 32 16 w)

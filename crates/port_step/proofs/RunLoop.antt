@@ -7,8 +7,9 @@ use native.Mathlib.Numerals.{add-one}
 use native.Mathlib.Omega.{arith}
 use lib.ListN.{length, getD, drop, set, length-append, length-drop}
 use lib.Seq.{drop-cons, set-at}
-use Rattle.answers.specs.Answers.{said, packed, number, leaving, kept}
+use Rattle.answers.specs.Answers.{said, packed, number, leaving, putAt, kept}
 use Rattle.answers.specs.declared.Refusal.the-variants.{Room}
+use Rattle.answers.proofs.PutAtStart.{put-at-start}
 use Rattle.port_state.specs.declared.Device.{Device}
 use Rattle.port_state.specs.declared.Reply.{Reply}
 use Rattle.port_state.specs.Memory.{Meets, freshDevice}
@@ -122,14 +123,13 @@ module _ (cells before list : List ℕ) (device : Device) (taken place : ℕ) (g
 
 -- After all events the list has all answers.
 pub finish : (cells before list : List ℕ) (device : Device) (taken place : ℕ) → Running cells before list device taken place → length cells / 3 ≤ taken
-    → list ≡ answersTo cells ++ drop (length (eventsOf cells)) before
+    → list ≡ putAt 0 (answersTo cells) before
 unfolding saysTo
 finish cells before list device taken place g h =
-    g .contents ∙ ap₂ (λ (l : List ℕ) (n : ℕ). l ++ drop n before) (sym all-done) (sym every)
+    g .contents
+    ∙ ap₂ (λ (l : List ℕ) (n : ℕ). l ++ drop n before) (sym all-done) (sym (g .long) ∙ ap length (sym all-done))
+    ∙ sym (put-at-start (answersTo cells) before)
   where
-    every : length (eventsOf cells) ≡ taken
-    every = let n = count-events cells in let m = g .most in omega arith
-
     none-left : eventsOf (drop place cells) ≡ []
     none-left = no-event (drop place cells) (let d = length-drop place cells in let t = g .thrice in omega arith)
 
@@ -147,8 +147,8 @@ has-room cells list h = let n = count-events cells in omega arith
 
 -- the answers stand in it.
 pub all-answered : (cells list : List ℕ) → length cells / 3 ≤ length list
-    → runOf cells list ≡ leaving (number (length cells / 3)) (answersTo cells ++ drop (length (eventsOf cells)) list)
+    → runOf cells list ≡ leaving (number (length cells / 3)) (putAt 0 (answersTo cells) list)
 unfolding runOf
 all-answered cells list h =
     rw (le-leb (length (eventsOf cells)) (length list) (has-room cells list h))
-    (ap (λ (n : ℕ). leaving (number n) (answersTo cells ++ drop (length (eventsOf cells)) list)) (count-events cells))
+    (ap (λ (n : ℕ). leaving (number n) (putAt 0 (answersTo cells) list)) (count-events cells))

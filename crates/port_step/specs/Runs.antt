@@ -1,11 +1,11 @@
 -- The run call: a fresh device takes events as numbers and gives one answer for each. The numbers are those of the fixed interfaces.
 use Prim.Native.Nat.{ℕ, _/_, _%_, _^_}
 use mathlib.Core.Bool.{not}
-use mathlib.Core.List.{List, [], _∷_, _++_, map}
-use lib.ListN.{length, drop}
+use mathlib.Core.List.{List, [], _∷_, map}
+use lib.ListN.{length}
 use Rattle.answers.specs.declared.Refusal.the-variants.{Room}
 use Rattle.answers.specs.Choices.{if_then_else_, _≤?_, _=?_}
-use Rattle.answers.specs.Answers.{packed, number, Leaves, leaving, kept}
+use Rattle.answers.specs.Answers.{packed, number, Leaves, leaving, putAt, kept}
 use Rattle.port_state.specs.Memory.{freshDevice}
 use Rattle.port_step.specs.declared.events.Event.{Event}
 use Rattle.port_step.specs.declared.events.Event.the-variants.{Edge, Tick, Sent, Report, Read, Write, Unnamed}
@@ -35,10 +35,9 @@ eventsOf (kind ∷ clock ∷ argument ∷ rest) = eventOf kind clock argument �
 abbrev pub answersTo : (cells : List ℕ) → List ℕ
 answersTo cells = map packed (saysTo freshDevice (eventsOf cells))
 
--- The call. Where there is room: the number of events, and the answers from the list's start on, all other entries as they were. Else refusal 12, Room, "if
--- there is no room for them", and "list kept".
+-- The call: the number of events, and the answers from the list's start on; "if there is no room for them", 12, Room, and "list kept".
 unfoldable pub runOf : (cells list : List ℕ) → Leaves
 runOf cells list =
     let count = length (eventsOf cells) in
-    if count ≤? length list then leaving (number count) (answersTo cells ++ drop count list)
+    if count ≤? length list then leaving (number count) (putAt 0 (answersTo cells) list)
     else kept Room list

@@ -1,9 +1,8 @@
 // A run of events as numbers, from a fresh device.
 ghost use mathlib.Core.Path.{_≡_};
-ghost use mathlib.Core.List.{_++_};
 ghost use Prim.Native.Nat.{_+_, _≤_};
-ghost use lib.ListN.{length, getD, drop};
-ghost use Rattle.answers.specs.Answers.{said};
+ghost use lib.ListN.{length, getD};
+ghost use Rattle.answers.specs.Answers.{said, putAt};
 ghost use Rattle.port_step.specs.Runs.{eventOf, eventsOf, answersTo, runOf};
 use crate::events::Event;
 use crate::events::step;
@@ -61,7 +60,7 @@ fn event_at(events: &[u64], place: usize) -> Event
 // Puts the answers at the head of a list that has room for them.
 fn answer_all(events: &[u64], answers: &mut [u64])
     requires { ⌜ length (eventsOf (now events)) ≤ length (now answers) ⌝ }
-    ensures { λ _. ⌜ now (answers .exit) ≡ answersTo (now (events .entry)) ++ drop (length (eventsOf (now (events .entry)))) (now (answers .entry)) ⌝ }
+    ensures { λ _. ⌜ now (answers .exit) ≡ putAt 0 (answersTo (now (events .entry))) (now (answers .entry)) ⌝ }
 {
     let count = events.len() / 3;
     let mut device = Device::fresh();

@@ -1,9 +1,9 @@
 -- 01, "The negotiation (LSM)": the tick event, with its draw; the timers that it looks at, the pages that it orders.
-use Prim.Native.Nat.{ℕ, _+_, _*_, _/_, _%_}
+use Prim.Native.Nat.{ℕ, _+_, _%_}
 use mathlib.Core.Bool.{Bool, true, false, not, _&&_}
 use mathlib.Core.List.{[], _∷_}
 use Rattle.answers.specs.Choices.{if_then_else_, _≤?_, _=?_, _<?_}
-use Rattle.page_resolve.specs.Roles.{isForced}
+use Rattle.page_resolve.specs.Roles.{isForced, hasT4}
 use Rattle.page_resolve.specs.declared.resolving.Resolution.the-variants.{Refused, Settled}
 use Rattle.line_mode.specs.Clock.{timeBetween}
 use Rattle.line_mode.specs.Modes.{lsmMode}
@@ -25,7 +25,6 @@ use Rattle.port_state.specs.Memory.{Due, due, intoBreak}
 use Rattle.port_state.specs.Changes.{withState, withOwn, withOut, withMark, withReader}
 
 -- "A timer has run out when the time since its start is at least its number, looked at on ticks only."
--- The number, the reading at which it was started, the reading now.
 abbrev pub runOut : (number start reading : ℕ) → Bool
 runOut number start reading = number ≤? timeBetween reading start
 
@@ -37,8 +36,7 @@ lowSpeed = record { mode = lsmMode; breaking = 8000000; silent = 33000; wait = 3
 abbrev pub inhibit : ℕ
 inhibit = 97500000
 
--- "for 10BASE-T1S 402 000 000, for 10BASE-T1L 3 060 000 000": 10BASE-T1S is A1 (full) and A22 (half), and
--- 10BASE-T1L is A9.
+-- "for 10BASE-T1S 402 000 000, for 10BASE-T1L 3 060 000 000": 10BASE-T1S is A1 (full) and A22 (half), 10BASE-T1L is A9.
 abbrev pub inhibitFor : (ability : ℕ) → ℕ
 inhibitFor ability =
     if among ability (1 ∷ 22 ∷ []) then 402000000
@@ -54,7 +52,7 @@ inhibitOf (Resolved (Settled ability master)) = inhibitFor ability
 -- "tick (with a draw, taken modulo 32)", "T = draw (but T4 as advertised if M/S is 1)": T0-T3 are the draw's in both cases.
 unfoldable pub nonceFor : (advertised draw : ℕ) → ℕ
 nonceFor advertised draw =
-    if isForced advertised then draw % 16 + (fieldOf Nonce advertised / 16) * 16 else draw % 32
+    if isForced advertised then draw % 16 + (if hasT4 advertised then 16 else 0) else draw % 32
 
 -- "own page is the advertisement with S = 1, E = 0, Ack = 0, NP = 0, T = draw"
 unfoldable pub ownPage : (advertised draw : ℕ) → ℕ

@@ -6,7 +6,7 @@ use mathlib.Core.Path.{_≡_}
 use mathlib.Core.Bool.{Bool, true, false, not, _&&_, _||_}
 use mathlib.Core.List.{List, [], _∷_, map}
 use Rattle.answers.specs.Choices.{if_then_else_, _=?_}
-use Rattle.answers.specs.Answers.{Said, saying}
+use Rattle.answers.specs.Answers.{Said, saying, pageOrdered}
 use Rattle.page_word.specs.Word.{hasBit}
 use Rattle.page_word.specs.Fields.{withPart}
 use Rattle.line_mode.specs.Clock.{timeBetween}
@@ -100,10 +100,10 @@ statusWasRead (e ∷ later) = readsStatus e || statusWasRead later
 unfoldable pub comparedValue : List Event → (register : ℕ) → Said → Said
 comparedValue later register value = if register =? 513 && not (statusWasRead later) then without6And4 value else value
 
--- "ordered pages": the words of the answers that order a page, which are those of kind 81 hex, in order.
+-- "ordered pages": the words of the answers that order a page, in order.
 unfoldable pub orderedPages : List Said → List ℕ
 orderedPages [] = []
-orderedPages (s ∷ rest) = let more = orderedPages rest in if s .kind =? 0x81 then s .value ∷ more else more
+orderedPages (s ∷ rest) = let more = orderedPages rest in if s .kind =? pageOrdered (s .value) .kind then s .value ∷ more else more
 
 -- Two devices that, each given its row of events, "give the same answers, register values and ordered pages".
 pub record Same (d : Device) (later : List Event) (d′ : Device) (later′ : List Event) : Type 0 where

@@ -4,7 +4,6 @@ use borrow.Author.Tests.{le-leb, lt-leb}
 use borrow.Author.Needs.{needs}
 use Rattle.answers.specs.Answers.{number}
 use Rattle.bench_listing.specs.Calls.{listed}
-use Rattle.bench_listing.proofs.PlacingLaws.{puts-headed}
 use Rattle.bench_listing.proofs.input.list.Statement.{statement}
 use Rattle.bench_listing.proofs.input.list.Tie as tie
 
@@ -25,7 +24,7 @@ returns-3 c =
           (c .before .before .before .before .before .before .before .if2 .left),
     ) (
       ap number (c .before .before .before .before .list-input .ensures .0 .behind ∙ zero-add _),
-      (c .before .before .before .before .list-input .ensures .1, puts-headed (c .before .before .before .before .list-input .ensures .0)),
+      (c .before .before .before .before .list-input .ensures .1, c .before .before .before .before .list-input .ensures .0 .contents),
     )
 
 pub list-spec : {M : Type 1} → statement M
