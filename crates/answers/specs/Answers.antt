@@ -84,7 +84,7 @@ pub record Leaves : Type 0 where
 abbrev pub leaving : Said → List ℕ → Leaves
 leaving says list = record { says = says; list = list }
 
--- Entries put into a lent list from a place on: "All other entries keep their contents."
+-- Entries put into a lent list from a place on, where there is room for them: "All other entries keep their contents."
 abbrev pub putAt : (place : ℕ) (entries list : List ℕ) → List ℕ
 putAt place entries list = take place list ++ entries ++ drop (place + length entries) list
 

@@ -7,7 +7,7 @@ use native.Mathlib.Numerals.{add-one}
 use native.Mathlib.Omega.{arith}
 use lib.ListN.{length, take, drop, getD, set, length-append, length-drop, length-set, take-append-drop}
 use lib.Seq.{take-at, drop-append-add, drop-drop, length-take-le, take-length, paste, paste-zero, paste-suc}
-use Rattle.bench_listing.specs.Placing.{Puts}
+use Rattle.bench_listing.specs.Calls.{Puts}
 
 module _ {before : List ℕ} {at : ℕ} {bytes after : List ℕ} {next : ℕ} (p : Puts before at bytes after next) where
   head-length : length (take at before ++ bytes) ≡ next

@@ -11,7 +11,7 @@ use Rattle.line_captures.specs.declared.captures.ReadOutcome.{ReadOutcome}
 use Rattle.line_captures.specs.declared.captures.ReadOutcome.the-variants.{Attempt}
 use Rattle.line_captures.specs.Captures.{readOf, onwards, attemptsFrom, attempts}
 use Rattle.line_captures.proofs.Walk.{attempt-forward}
-use Rattle.bench_listing.specs.Placing.{Puts}
+use Rattle.bench_listing.specs.Calls.{Puts}
 use Rattle.bench_listing.specs.Listing.{isGood, attemptLine, attemptLines, goodOnes, badOnes, firstLine, lastLine, captureListing}
 use Rattle.bench_listing.proofs.PlacingLaws.{same-long, puts-same, puts-then, puts-none}
 

@@ -1,4 +1,3 @@
 pub mod Words
-pub mod Placing
 pub mod Listing
 pub mod Calls

@@ -15,14 +15,14 @@ use Rattle.bench_listing.specs.declared.input.Given.{Given}
 use Rattle.bench_listing.specs.declared.input.Given.the-variants.{Refused, Capture}
 use Rattle.bench_listing.specs.Words.{text, decimal, hexDigits}
 
--- "Input: a mode byte, then readings of four bytes, low first, at most 8 000. Otherwise one line `refused 14` (mode missing or wrong),
--- `refused 12` (over 32 001 bytes) or `refused 15` (the bytes after the first are no multiple of four), in that order."
+-- In a mode that there is: "`refused 12` (over 32 001 bytes) or `refused 15` (the bytes after the first are no multiple of four), in that order."
 abbrev pub givenIn : (mode : ℕ) (bytes : List ℕ) → Given
 givenIn mode bytes =
     if 32001 <? length (mode ∷ bytes) then Refused Room
     else if length bytes % 4 =? 0 then Capture mode
     else Refused Odd
 
+-- "Input: a mode byte, then readings of four bytes, low first, at most 8 000. Otherwise one line `refused 14` (mode missing or wrong)", before the others.
 unfoldable pub given : (input : List ℕ) → Given
 given [] = Refused Mode
 given (mode ∷ bytes) = byMode (modeOf mode) (λ m. givenIn mode bytes) (Refused Mode)
@@ -39,8 +39,7 @@ readingsOf (a ∷ b ∷ []) = []
 readingsOf (a ∷ []) = []
 readingsOf [] = []
 
--- "The zero page alone gives `1 good 000000000000` (12 hex digits, small letters) as its line; other words are `gap` and `check`", and
--- `cut` in the example.
+-- "The zero page alone gives `1 good 000000000000` (12 hex digits, small letters) as its line; other words are `gap` and `check`", and `cut`.
 abbrev pub endingWord : Ending → List ℕ
 endingWord (Good word) = text "good " ++ hexDigits word
 endingWord Gap = text "gap"

@@ -3,7 +3,7 @@ ghost use mathlib.Core.Path.{_≡_};
 ghost use Prim.Native.Nat.{_<_, _≤_};
 ghost use lib.ListN.{length};
 ghost use Rattle.answers.specs.Choices.{if_then_else_};
-ghost use Rattle.bench_listing.specs.Placing.{Puts};
+ghost use Rattle.bench_listing.specs.Calls.{Puts};
 ghost use Rattle.bench_listing.specs.Listing.{isGood, captureListing};
 use crate::text::put_attempt;
 use crate::text::put_first_line;

@@ -2,7 +2,7 @@
 ghost use mathlib.Core.Path.{_≡_};
 ghost use Prim.Native.Nat.{_+_, _<_, _≤_};
 ghost use lib.ListN.{length};
-ghost use Rattle.bench_listing.specs.Placing.{Puts};
+ghost use Rattle.bench_listing.specs.Calls.{Puts};
 ghost use Rattle.bench_listing.specs.Words.{decimal, hexDigits};
 ghost use Rattle.bench_listing.specs.Listing.{modeName, firstLine, endingWord, attemptLine, lastLine, refusedLine};
 use answers::Refusal;

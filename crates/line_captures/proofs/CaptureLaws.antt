@@ -52,7 +52,7 @@ unfolding opensAt
 opens-end m r tail at i h = rw (drop-of-length-le tail h)
 
 attempt-end : (m : LineMode) (r : Reader) (tail : List ℕ) (at i : ℕ) → length tail ≤ i → attemptOf m r (drop i tail) at ≡ Attempt Cut at
-unfolding attemptOf
+unfolding attemptOf opensAt
 attempt-end m r tail at i h = rw (drop-of-length-le tail h)
 
 -- Looking for the edge that opens the next attempt.

@@ -7,9 +7,11 @@ use Rattle.line_mode.specs.declared.modes.LineMode.{LineMode}
 use Rattle.line_reader.specs.declared.reader.Step.{Step}
 use Rattle.line_reader.specs.declared.reader.Reader.{Reader}
 use Rattle.line_reader.specs.declared.reader.Reader.the-variants.{Fresh, Open, Dropping}
+use Rattle.line_reader.specs.declared.endings.Ending.the-variants.{Cut}
 use Rattle.line_reader.specs.Reading.{edgeOf}
 use Rattle.line_reader.proofs.ClockShift.{later, edge-later}
 use Rattle.line_captures.specs.declared.captures.ReadOutcome.{ReadOutcome}
+use Rattle.line_captures.specs.declared.captures.ReadOutcome.the-variants.{Attempt}
 use Rattle.line_captures.specs.Captures.{isOpen, opensAt, endsAt, attemptOf}
 
 -- A capture whose readings are all later by δ.
@@ -33,7 +35,7 @@ opens-later m δ r (x ∷ rest) at =
 pub attempt-later : (m : LineMode) (δ : ℕ) (r : Reader) (capture : List ℕ) (at : ℕ)
     → attemptOf m (later δ r) (allLater δ capture) at ≡ attemptOf m r capture at
 unfolding attemptOf
-attempt-later m δ r [] at = refl
+attempt-later m δ r [] at = ap (Attempt Cut) (opens-later m δ r [] at)
 attempt-later m δ r (x ∷ rest) at =
     ap₂ (λ (b : Step) (n : ℕ). endsAt (b .heard) (attemptOf m (b .reader) (allLater δ rest) (at + 1)) n) (edge-later m δ r x) (opens-later m δ r (x ∷ rest) at)
     ∙ ap (λ (o : ReadOutcome). endsAt (edgeOf m r x .heard) o (opensAt m r (x ∷ rest) at)) (attempt-later m δ (edgeOf m r x .reader) rest (at + 1))

@@ -42,7 +42,7 @@ opensAt mode reader (x ∷ rest) at =
     if isOpen after then at
     else opensAt mode after rest (at + 1)
 
--- An edge of an attempt: it goes on, or it has ended and the next one opens there.
+-- An edge of an attempt: the attempt goes on, or it has ended, and the next one opens at that place.
 abbrev pub endsAt : Heard → (goes-on : ReadOutcome) (next : ℕ) → ReadOutcome
 endsAt Nothing goes-on next = goes-on
 endsAt (Ended ending) goes-on next = Attempt ending next
@@ -51,7 +51,7 @@ endsAt (Ended ending) goes-on next = Attempt ending next
 -- list, Cut. The next attempt opens at the edge that ends this one, as "that edge opens the next" after Cut, or at a later one. (The read call
 -- asks this of a fresh reader and at least one edge, so an attempt is open at the end of the list.)
 unfoldable pub attemptOf : (mode : LineMode) (reader : Reader) (edges : List ℕ) (at : ℕ) → ReadOutcome
-attemptOf mode reader [] at = Attempt Cut at
+attemptOf mode reader [] at = Attempt Cut (opensAt mode reader [] at)
 attemptOf mode reader (x ∷ rest) at =
     endsAt (edgeOf mode reader x .heard) (attemptOf mode (edgeOf mode reader x .reader) rest (at + 1)) (opensAt mode reader (x ∷ rest) at)
 

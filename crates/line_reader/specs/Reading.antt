@@ -22,6 +22,10 @@ use Rattle.line_reader.specs.Pattern.{asks}
 abbrev pub step : Heard → Reader → Step
 step heard reader = record { heard = heard; reader = reader }
 
+-- An edge that opens an attempt stands at position 1, and no bits have come.
+abbrev pub opening : (reading : ℕ) → Reader
+opening reading = Open 1 reading 0
+
 -- The bits that have come, in a number of 64 bits: a new one enters at the top and moves the others one down, so that after 64 the first
 -- that came is the lowest, and nothing is left of what the number held before. "after a clock, two positions is a zero, one is a one"
 abbrev pub withBit : (at k bits : ℕ) → ℕ
@@ -37,10 +41,9 @@ arrives at bits reading =
     if at =? 157 then step (Ended (pageEnd bits)) (Dropping reading)
     else step Nothing (Open at reading bits)
 
--- A further edge of an attempt, by its gap. "A quiet gap in an attempt ends it (Cut), and that edge opens the next. Any other wrong gap
--- ends it (Gap)."
+-- A further edge, by its gap. "A quiet gap in an attempt ends it (Cut), and that edge opens the next. Any other wrong gap ends it (Gap)."
 unfoldable pub goesOn : (mode : LineMode) (at bits reading : ℕ) → Judgement → Step
-goesOn mode at bits reading Quiet = step (Ended Cut) (Open 1 reading 0)
+goesOn mode at bits reading Quiet = step (Ended Cut) (opening reading)
 goesOn mode at bits reading Unfit = step (Ended Gap) (Dropping reading)
 goesOn mode at bits reading (Positions k) =
     if asks mode at k then arrives (at + k) (withBit at k bits) reading
@@ -48,13 +51,13 @@ goesOn mode at bits reading (Positions k) =
 
 -- "After Gap, Check or a good page, edges are dropped without an answer until one follows a quiet gap; it opens an attempt."
 unfoldable pub dropsOn : (reading : ℕ) → Judgement → Step
-dropsOn reading Quiet = step Nothing (Open 1 reading 0)
+dropsOn reading Quiet = step Nothing (opening reading)
 dropsOn reading Unfit = step Nothing (Dropping reading)
 dropsOn reading (Positions k) = step Nothing (Dropping reading)
 
 -- What an edge brings to a reader. "A fresh reader takes the next edge as position 1 and opens an attempt."
 unfoldable pub edgeOf : (mode : LineMode) (reader : Reader) (reading : ℕ) → Step
-edgeOf mode Fresh reading = step Nothing (Open 1 reading 0)
+edgeOf mode Fresh reading = step Nothing (opening reading)
 edgeOf mode (Open at last bits) reading = goesOn mode at bits reading (judgementOf mode (timeBetween reading last))
 edgeOf mode (Dropping last) reading = dropsOn reading (judgementOf mode (timeBetween reading last))
 

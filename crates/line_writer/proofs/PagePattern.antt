@@ -1,45 +1,60 @@
 -- The four kinds of positions of a page, and the mask of its delimiter.
 use mathlib.Core.Path.{_≡_, refl, sym, ap, _∙_}
 use mathlib.Core.Bool.{Bool, true, false, Bool·beq}
-use mathlib.Core.List.{List, _++_}
-use Prim.Native.Nat.{ℕ, _+_, _-_, _/_, _%_, _^_, _<_, _≤_}
+use mathlib.Core.List.{List}
+use Prim.Native.Nat.{ℕ, zero, suc, _+_, _-_, _*_, _/_, _%_, _^_, _<_, _≤_}
 use native.Mathlib.Omega.{arith}
-use lib.ListN.{getD, replicate}
-use lib.Seq.{getD-append-add}
+use lib.Dec.{eqb}
+use lib.ListN.{length, getD}
+use borrow.Author.Tests.{eqb-true}
 use Rattle.answers.specs.Choices.{if_then_else_}
 use Rattle.page_word.specs.Word.{odd, among}
 use Rattle.page_word.proofs.ComputedTest.{everyBelow, at-each, beq-equal}
 use Rattle.page_check_bits.specs.CheckBits.{checkBits}
 use Rattle.line_mode.specs.declared.modes.LineMode.{LineMode}
-use Rattle.line_page.specs.Pattern.{always, never, has, delimiterOf}
+use Rattle.line_page.specs.Pattern.{isBit, always, never, has, delimiterOf}
 use Rattle.line_page.proofs.Positions.{startOf, by-delimiter, at-odd, at-even, at-none}
 use Rattle.line_page.proofs.Positions as positions
-use Rattle.line_writer.specs.Transitions.{hasTransition, sentBits}
+use Rattle.line_writer.specs.Transitions.{positionsTo, hasTransition, sentBits}
 use Rattle.line_writer.proofs.SentBits.{data-bit, check-bit}
 
-module _ (m : LineMode) (bits : List Bool) (p : ℕ) where
-  pub in-delimiter : p ≤ 26 → hasTransition m bits p ≡ among p (delimiterOf m)
+-- Before the i-th position for a bit stand i others: computed.
+counted : everyBelow 64 (λ (i : ℕ). eqb (length (positionsTo isBit (27 + 2 * i))) i) ≡ true
+unfolding positionsTo isBit
+counted = refl
+
+bits-before : (n : ℕ) → 26 ≤ n → n < 154 → n % 2 ≡ 1 → length (positionsTo isBit n) ≡ (n - 27) / 2
+bits-before n h l o =
+    ap (λ (k : ℕ). length (positionsTo isBit k)) (let e : n ≡ 27 + 2 * ((n - 27) / 2) = omega arith in e)
+    ∙ eqb-true (length (positionsTo isBit (27 + 2 * ((n - 27) / 2)))) ((n - 27) / 2)
+    (at-each 64 (λ (i : ℕ). eqb (length (positionsTo isBit (27 + 2 * i))) i) counted ((n - 27) / 2) (omega arith))
+
+module _ (m : LineMode) (bits : List Bool) where
+  pub in-delimiter : (p : ℕ) → p ≤ 26 → hasTransition m bits p ≡ among p (delimiterOf m)
   unfolding hasTransition
-  in-delimiter h = rw (positions.in-delimiter m p h) (by (among p (delimiterOf m)))
+  in-delimiter zero h = by-delimiter (λ k. false ≡ among 0 (delimiterOf k)) (λ s t q. refl) (λ s t q. refl) m
+  in-delimiter (suc n) h = rw (positions.in-delimiter m (suc n) h) (by (among (suc n) (delimiterOf m)))
     where
-      by : (t : Bool) → has (if t then always else never) (getD (replicate 14 false ++ bits) (p / 2) false) ≡ t
+      by : (t : Bool) → has (if t then always else never) (getD bits (length (positionsTo isBit n)) false) ≡ t
       by true = refl
       by false = refl
 
-  pub at-clock : 26 < p → p ≤ 157 → p % 2 ≡ 1 → hasTransition m bits p ≡ true
+  pub at-clock : (p : ℕ) → 26 < p → p ≤ 157 → p % 2 ≡ 1 → hasTransition m bits p ≡ true
   unfolding hasTransition
-  at-clock h l o = rw (at-odd m p h l o)
+  at-clock zero h l o = absurd (omega arith)
+  at-clock (suc n) h l o = rw (at-odd m (suc n) h l o)
 
-  pub at-bit : 26 < p → p ≤ 154 → (p % 2 ≡ 1 → ⊥) → hasTransition m bits p ≡ getD bits ((p - 28) / 2) false
+  pub at-bit : (p : ℕ) → 26 < p → p ≤ 154 → (p % 2 ≡ 1 → ⊥) → hasTransition m bits p ≡ getD bits ((p - 28) / 2) false
   unfolding hasTransition
-  at-bit h l e =
-      rw (at-even m p h l (omega arith))
-      (ap (λ (n : ℕ). getD (replicate 14 false ++ bits) n false) (let half : p / 2 ≡ 14 + (p - 28) / 2 = omega arith in half)
-      ∙ getD-append-add (replicate 14 false) bits ((p - 28) / 2) false)
+  at-bit zero h l e = absurd (omega arith)
+  at-bit (suc n) h l e =
+      rw (at-even m (suc n) h l (omega arith))
+      (ap (λ (i : ℕ). getD bits i false) (bits-before n (omega arith) (omega arith) (omega arith) ∙ (let e : (n - 27) / 2 ≡ (suc n - 28) / 2 = omega arith in e)))
 
-  pub at-156 : 154 < p → p ≤ 157 → (p % 2 ≡ 1 → ⊥) → hasTransition m bits p ≡ false
+  pub at-156 : (p : ℕ) → 154 < p → p ≤ 157 → (p % 2 ≡ 1 → ⊥) → hasTransition m bits p ≡ false
   unfolding hasTransition
-  at-156 h l e = rw (at-none m p h (λ q. e (ap (λ (x : ℕ). x % 2) q)) (λ q. e (ap (λ (x : ℕ). x % 2) q)))
+  at-156 zero h l e = absurd (omega arith)
+  at-156 (suc n) h l e = rw (at-none m (suc n) h (λ q. e (ap (λ (x : ℕ). x % 2) q)) (λ q. e (ap (λ (x : ℕ). x % 2) q)))
 
 -- The mask agrees with the delimiter's list at each of its positions: computed.
 abbrev alike : LineMode → ℕ → Bool

@@ -1,21 +1,17 @@
 -- 01, "The line": where a page's transitions are, and when.
-use Prim.Native.Nat.{ℕ, zero, suc, _+_, _*_, _/_, _%_, _^_}
+use Prim.Native.Nat.{ℕ, zero, suc, _+_, _*_, _%_, _^_}
 use mathlib.Core.Bool.{Bool, false}
 use mathlib.Core.List.{List, [], _∷_, _++_, map}
-use lib.ListN.{length, getD, replicate}
+use lib.ListN.{length, getD}
 use Rattle.answers.specs.Choices.{if_then_else_}
 use Rattle.page_word.specs.Word.{bitsOf}
 use Rattle.page_check_bits.specs.CheckBits.{checkList}
 use Rattle.line_mode.specs.declared.modes.LineMode.{LineMode}
-use Rattle.line_page.specs.Pattern.{standsAt, has}
+use Rattle.line_page.specs.Pattern.{isBit, standsAt, has}
 
 -- "D0 to D47, then S15 to S0"
 unfoldable pub sentBits : (word : ℕ) → List Bool
 sentBits w = bitsOf 48 w ++ checkList w
-
--- Whether a page with these 64 bits has a transition at a position. Bits stand at even positions, the first at 28: fourteen even positions, 0 to 26, come before it.
-unfoldable pub hasTransition : (mode : LineMode) (bits : List Bool) (position : ℕ) → Bool
-hasTransition mode bits p = has (standsAt mode p) (getD (replicate 14 false ++ bits) (p / 2) false)
 
 -- The positions from 1 to n for which a test holds, in order.
 unfoldable pub positionsTo : (test : ℕ → Bool) (n : ℕ) → List ℕ
@@ -23,11 +19,17 @@ positionsTo test zero = []
 positionsTo test (suc n) =
     let before = positionsTo test n in if test (suc n) then before ++ (suc n ∷ []) else before
 
+-- Whether a page with these bits has a transition at a position. The bits stand in their order at the positions for bits: after n positions comes the bit
+-- that has as many before it as there are such positions among the n. Position 0 there is none.
+unfoldable pub hasTransition : (mode : LineMode) (bits : List Bool) (position : ℕ) → Bool
+hasTransition mode bits zero = false
+hasTransition mode bits (suc n) = has (standsAt mode (suc n)) (getD bits (length (positionsTo isBit n)) false)
+
 -- A page's transitions: those of its 157 positions that have one.
 unfoldable pub transitions : (mode : LineMode) (word : ℕ) → List ℕ
 transitions mode w = positionsTo (hasTransition mode (sentBits w)) 157
 
--- "at nominal spacing from a given first reading modulo 2^32": position 1 has the first reading, and n positions after it there is this. Position 0 there is none.
+-- "at nominal spacing from a given first reading modulo 2^32": position 1 has the first reading, and n positions after it there is this.
 abbrev pub readingAt : (spacing first position : ℕ) → ℕ
 readingAt spacing first zero = 0
 readingAt spacing first (suc n) = (first + n * spacing) % 2 ^ 32

@@ -38,8 +38,7 @@ abbrev pub numeral : (bits : List Bool) → ℕ
 numeral [] = 0
 numeral (b ∷ bs) = (if b then 2 ^ length bs else 0) + numeral bs
 
--- S15 to S0 of a word, in the order in which they are sent: "the x^15 coefficient (S15) is sent first". Only D0-D47 are looked at;
--- the check call refuses wider numbers.
+-- S15 to S0, in the order in which they are sent: "the x^15 coefficient (S15) is sent first". Only D0-D47 of a number are looked at.
 unfoldable pub checkList : (word : ℕ) → List Bool
 checkList w = remainder (bitsOf 48 w)
 

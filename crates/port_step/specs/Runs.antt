@@ -35,7 +35,7 @@ eventsOf (kind ∷ clock ∷ argument ∷ rest) = eventOf kind clock argument �
 abbrev pub answersTo : (cells : List ℕ) → List ℕ
 answersTo cells = map packed (saysTo freshDevice (eventsOf cells))
 
--- The call: the number of events, and the answers from the list's start on; "if there is no room for them", 12, Room, and "list kept".
+-- The call: the number of events, and the answers from the list's start on; "if there is no room for them" (fixed interfaces), 12, Room, and "list kept".
 unfoldable pub runOf : (cells list : List ℕ) → Leaves
 runOf cells list =
     let count = length (eventsOf cells) in

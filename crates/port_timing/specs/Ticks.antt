@@ -3,6 +3,7 @@ use Prim.Native.Nat.{ℕ, _+_, _%_}
 use mathlib.Core.Bool.{Bool, true, false, not, _&&_}
 use mathlib.Core.List.{[], _∷_}
 use Rattle.answers.specs.Choices.{if_then_else_, _≤?_, _=?_, _<?_}
+use Rattle.page_resolve.specs.Rates.{t1sFull, t1l, t1sHalf}
 use Rattle.page_resolve.specs.Roles.{isForced, hasT4}
 use Rattle.page_resolve.specs.declared.resolving.Resolution.the-variants.{Refused, Settled}
 use Rattle.line_mode.specs.Clock.{timeBetween}
@@ -36,11 +37,11 @@ lowSpeed = record { mode = lsmMode; breaking = 8000000; silent = 33000; wait = 3
 abbrev pub inhibit : ℕ
 inhibit = 97500000
 
--- "for 10BASE-T1S 402 000 000, for 10BASE-T1L 3 060 000 000": 10BASE-T1S is A1 (full) and A22 (half), 10BASE-T1L is A9.
+-- "for 10BASE-T1S 402 000 000, for 10BASE-T1L 3 060 000 000"
 abbrev pub inhibitFor : (ability : ℕ) → ℕ
 inhibitFor ability =
-    if among ability (1 ∷ 22 ∷ []) then 402000000
-    else if ability =? 9 then 3060000000
+    if among ability (t1sFull ∷ t1sHalf ∷ []) then 402000000
+    else if ability =? t1l then 3060000000
     else inhibit
 
 -- By the kept outcome.
@@ -75,8 +76,7 @@ holdsBack quiet Fresh reading = false
 holdsBack quiet (Open at last bits) reading = timeBetween reading last <? quiet
 holdsBack quiet (Dropping last) reading = false
 
--- "if none is out, no attempt is open whose last edge is less than the quiet limit old, and silent has run since the mark if it is heard, wait if
--- waiting"
+-- "if none is out, no attempt is open whose last edge is less than the quiet limit old, and silent has run since the mark if it is heard, wait if waiting"
 unfoldable pub mayOrder : Profile → (reading : ℕ) → Link → Bool
 mayOrder p reading link =
     not (link .talk .out)

@@ -9,7 +9,7 @@ use Rattle.page_check_bits.specs.CheckBits.{plus, checkList}
 use Rattle.page_check_bits.proofs.Remainders.{scaled, times, quotient, divisible, no-other}
 use Rattle.page_check_bits.proofs.Strength.{differing}
 use Rattle.line_mode.specs.declared.modes.LineMode.{LineMode}
-use Rattle.line_writer.specs.Transitions.{transitions}
+use Rattle.line_writer.specs.Transitions.{sentBits, transitions}
 use Rattle.line_writer.proofs.Damage.{hasAt, pages-apart}
 use Rattle.promises.specs.SmallDamage.{multipleBy, changedBelow, FarApart, SmallDamage}
 
@@ -24,8 +24,8 @@ unfolding changedBelow differing
 same-changed zero page other = refl
 same-changed (suc p) page other = ap (λ (k : ℕ). cond (xor (among p page) (among p other)) 1 0 + k) (same-changed p page other)
 
-check-multiple : (w : ℕ) → (q : List Bool) × (multipleBy q ≡ bitsOf 48 w ++ checkList w)
-unfolding checkList
+check-multiple : (w : ℕ) → (q : List Bool) × (multipleBy q ≡ sentBits w)
+unfolding sentBits checkList
 check-multiple w =
     let q = quotient (length (bitsOf 48 w)) (bitsOf 48 w ++ replicate 16 false) in (q, same-multiple q ∙ divisible (bitsOf 48 w))
 

@@ -8,7 +8,7 @@ use Rattle.answers.specs.Choices.{if_then_else_}
 use Rattle.page_word.specs.Word.{bitsOf, among}
 use Rattle.page_check_bits.specs.CheckBits.{plus, generator, checkList}
 use Rattle.line_mode.specs.declared.modes.LineMode.{LineMode}
-use Rattle.line_writer.specs.Transitions.{transitions}
+use Rattle.line_writer.specs.Transitions.{sentBits, transitions}
 
 -- A polynomial times x^16 + x^15 + x^2 + 1: the divisor added in once at the power of each coefficient that is one.
 abbrev pub multipleBy : List Bool → List Bool
@@ -30,7 +30,7 @@ pub record FarApart (page other : List ℕ) : Type 0 where
 pub record SmallDamage : Type 0 where
   -- "The remainder is that of the 48 bits times x^16". The 48 bits times x^16, less the remainder, are the 48 bits followed by the check bits, and these
   -- are a multiple of the polynomial;
-  pub divides : (w : ℕ) → (q : List Bool) × (multipleBy q ≡ bitsOf 48 w ++ checkList w)
+  pub divides : (w : ℕ) → (q : List Bool) × (multipleBy q ≡ sentBits w)
   -- and no other sixteen bits make them one.
   pub no-other : (w : ℕ) (q bits : List Bool) → length bits ≡ 16 → multipleBy q ≡ bitsOf 48 w ++ bits → bits ≡ checkList w
   -- The pages of two different words, in any mode.

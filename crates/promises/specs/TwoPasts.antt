@@ -32,7 +32,7 @@ restarts Unnamed = false
 abbrev pub entersBreak : Event → Device → Bool
 entersBreak e d = isBreak (stepDue e d .device .state) && (not (isBreak (d .state)) || restarts e)
 
--- A module with "any past": any events from a fresh device on, and one more, which has just taken it into Break.
+-- A module with any past: any events from a fresh device on, and one more, which has just taken it into Break.
 pub record Module : Type 0 where
   pub past : List Event
   pub entry : Event
@@ -112,8 +112,7 @@ pub record Same (d : Device) (later : List Event) (d′ : Device) (later′ : Li
       → comparedValue later register (readDue register (afterAll d later) .says) ≡ comparedValue later′ register (readDue register (afterAll d′ later′) .says)
   pub pages : orderedPages (saysTo d later) ≡ orderedPages (saysTo d′ later′)
 
--- "No page outlives its link." The two premises are the customer's: each has just gone into Break, which `Module` says, and the registers
--- 7.514-7.516 are the same.
+-- "No page outlives its link." The two premises are the customer's: each has just gone into Break (`Module`), and 7.514-7.516 are the same.
 abbrev pub NoPageOutlivesItsLink : Type 0
 NoPageOutlivesItsLink =
     (first second : Module) (later : List Event) → deviceOf first .lasting .advertised ≡ deviceOf second .lasting .advertised

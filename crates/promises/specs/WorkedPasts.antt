@@ -33,8 +33,7 @@ firstDevice = stepDue firstEntry (afterAll freshDevice firstPast) .device
 abbrev pub secondDevice : Device
 secondDevice = stepDue secondEntry (afterAll freshDevice secondPast) .device
 
--- Later the break timer runs out, just at the second tick: the own page has the 9 that is drawn there, and not the 8 before it. The page is ordered, 513 is read
--- twice, and 517 once.
+-- Later the break timer runs out, just at the second tick: the own page has the 9 drawn there, not the 8. It is ordered, 513 is read twice, and 517 once.
 abbrev pub laterEvents : List Event
 laterEvents = Tick 7999703 8 ∷ Tick 7999704 9 ∷ Tick 8349704 0 ∷ Read 8349705 513 ∷ Read 8349706 513 ∷ Read 8349707 517 ∷ []
 
