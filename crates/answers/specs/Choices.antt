@@ -1,4 +1,4 @@
--- How a definition chooses: "if .. then .. else ..", and tests on numbers that are written as one reads them.
+-- How a definition chooses: `if .. then .. else ..`, and tests on numbers that are written as one reads them.
 use Prim.Native.Nat.{ℕ}
 use mathlib.Core.Bool.{Bool, cond}
 use lib.Dec.{leb, ltb, eqb}

@@ -22,7 +22,7 @@ use Rattle.line_reader.specs.Pattern.{asks}
 abbrev pub step : Heard → Reader → Step
 step heard reader = record { heard = heard; reader = reader }
 
--- An edge that opens an attempt stands at position 1, and no bits have come.
+-- The reader after an edge that opens an attempt: it stands at position 1, and no bits have come.
 abbrev pub opening : (reading : ℕ) → Reader
 opening reading = Open 1 reading 0
 

@@ -19,8 +19,8 @@ positionsTo test zero = []
 positionsTo test (suc n) =
     let before = positionsTo test n in if test (suc n) then before ++ (suc n ∷ []) else before
 
--- Whether a page with these bits has a transition at a position. The bits stand in their order at the positions for bits: after n positions comes the bit
--- that has as many before it as there are such positions among the n. Position 0 there is none.
+-- Whether a page with these bits has a transition at a position, here n + 1. If it is one for bits, its bit is the one that has as many before it as there
+-- are positions for bits among 1 to n. Position 0 there is none.
 unfoldable pub hasTransition : (mode : LineMode) (bits : List Bool) (position : ℕ) → Bool
 hasTransition mode bits zero = false
 hasTransition mode bits (suc n) = has (standsAt mode (suc n)) (getD bits (length (positionsTo isBit n)) false)
@@ -29,7 +29,7 @@ hasTransition mode bits (suc n) = has (standsAt mode (suc n)) (getD bits (length
 unfoldable pub transitions : (mode : LineMode) (word : ℕ) → List ℕ
 transitions mode w = positionsTo (hasTransition mode (sentBits w)) 157
 
--- "at nominal spacing from a given first reading modulo 2^32": position 1 has the first reading, and n positions after it there is this.
+-- "at nominal spacing from a given first reading modulo 2^32": position 1 has the first reading, and n positions after it there is this. Position 0 there is none.
 abbrev pub readingAt : (spacing first position : ℕ) → ℕ
 readingAt spacing first zero = 0
 readingAt spacing first (suc n) = (first + n * spacing) % 2 ^ 32

@@ -10,19 +10,9 @@ use Rattle.page_word.specs.declared.fields.Field.the-variants.{Abilities}
 use Rattle.page_resolve.specs.declared.rates.Rate.{Rate}
 use Rattle.page_resolve.specs.declared.rates.Rate.the-variants.{Ability, Missing}
 
--- The numbers n of the abilities An that are named elsewhere too: "A1 10BASE-T1S full, A9 10BASE-T1L, A22 10BASE-T1S half".
-abbrev pub t1sFull : ℕ
-t1sFull = 1
-
-abbrev pub t1l : ℕ
-t1l = 9
-
-abbrev pub t1sHalf : ℕ
-t1sHalf = 22
-
--- The numbers of the abilities, in that order. An ability that is not in the list is never looked at.
+-- The numbers n of the abilities An, in that order. An ability that is not in the list is never looked at.
 abbrev pub rateOrder : List ℕ
-rateOrder = 6 ∷ 5 ∷ 4 ∷ 3 ∷ 2 ∷ 0 ∷ t1sFull ∷ t1l ∷ t1sHalf ∷ []
+rateOrder = 6 ∷ 5 ∷ 4 ∷ 3 ∷ 2 ∷ 0 ∷ 1 ∷ 9 ∷ 22 ∷ []
 
 -- Whether a word has the ability An, the lowest bit of the field being A0. From A27 on there is none: the field has no such bit.
 unfoldable pub hasAbility : (word n : ℕ) → Bool

@@ -14,19 +14,19 @@ use Rattle.line_reader.specs.declared.reader.Step.{Step}
 use Rattle.line_reader.specs.Endings.{saidOfEnding}
 use Rattle.line_reader.specs.Reading.{edgeOf}
 use Rattle.port_state.specs.declared.State.{State}
-use Rattle.port_state.specs.declared.State.the-variants.{Ack, Complete}
+use Rattle.port_state.specs.declared.State.the-variants.{Off, Break, Ability, Ack, Complete, CheckLink, Up}
 use Rattle.port_state.specs.declared.Device.{Device}
 use Rattle.port_state.specs.PageRegisters.{registersOf}
-use Rattle.port_state.specs.Memory.{Due, due, byState, isTalking, intoBreak}
-use Rattle.port_state.specs.Changes.{withState, withPartner, withFlags, withHeld, withCount, withMark, withReader}
+use Rattle.port_state.specs.Memory.{Due, due, isTalking, intoBreak}
+use Rattle.port_state.specs.Changes.{withState, withPartner, withFlags, withHeld, withCount, markHeard, withReader}
 
--- "A good page not refused answers itself."
+-- "A good page not refused answers itself", and this is the device afterwards.
 abbrev pub takes : (word : ℕ) → Device → Due
 takes word d = due (saidOfEnding (Good word)) d
 
 -- "hold it, mark "heard" at its last edge, to Ack"
 abbrev pub holds : (word reading : ℕ) → Device → Device
-holds word reading d = withState Ack (withMark true reading (withHeld word d))
+holds word reading d = withState Ack (markHeard reading (withHeld word d))
 
 -- "Ability: on a good page, S other than 1: Selector, stay. T equal to own: Tie, to Break. Else hold it, .."
 unfoldable pub pageInAbility : (word reading : ℕ) → Device → Due
@@ -44,9 +44,10 @@ abbrev pub intoComplete : (word reading : ℕ) → Device → Device
 intoComplete word reading d =
     withState Complete
     (withCount 0
-    (withFlags true (faultAfter word (d .lasting .flags .fault)) (withPartner (registersOf word) (withMark true reading d))))
+    (withFlags true (faultAfter word (d .lasting .flags .fault)) (withPartner (registersOf word) (markHeard reading d))))
 
--- What of a word is compared: the word with Ack and E 0. (A number of 2^48 or more, which no call holds, differs from every page.)
+-- What of a word is compared: the word with Ack and E 0. A number of 2^48 or more, held only by a record that no call has made, differs from every
+-- page in its upper bits.
 unfoldable pub beyondAckAndEcho : (word : ℕ) → ℕ
 beyondAckAndEcho word = withField field.Ack 0 (withField field.EchoedNonce 0 word)
 
@@ -63,15 +64,19 @@ echoesOther own word = not (fieldOf field.EchoedNonce word =? fieldOf field.Nonc
 unfoldable pub pageInAck : (word reading : ℕ) → Device → Due
 pageInAck word reading d =
     if isChanged word (d .link .talk .held) then due (refused refusal.Changed) (intoBreak reading d)
-    else if fieldOf field.Ack word =? 0 then takes word (withMark true reading d)
+    else if fieldOf field.Ack word =? 0 then takes word (markHeard reading d)
     else if echoesOther (d .link .talk .own) word then due (refused refusal.Echo) (intoBreak reading d)
     else takes word (intoComplete word reading d)
 
 -- "Complete: a good page marks heard." In the other states no edge is read, so no page comes.
 unfoldable pub pageIn : State → (word reading : ℕ) → Device → Due
-pageIn state word reading d =
-    let none = due nothing d in
-    byState state none none (pageInAbility word reading d) (pageInAck word reading d) (takes word (withMark true reading d)) none none
+pageIn Off word reading d = due nothing d
+pageIn Break word reading d = due nothing d
+pageIn Ability word reading d = pageInAbility word reading d
+pageIn Ack word reading d = pageInAck word reading d
+pageIn Complete word reading d = takes word (markHeard reading d)
+pageIn CheckLink word reading d = due nothing d
+pageIn Up word reading d = due nothing d
 
 -- What was heard: of a good page the state decides, anything else is answered.
 unfoldable pub hears : Heard → (reading : ℕ) → Device → Due
@@ -85,7 +90,8 @@ hears (Ended Check) reading d = due (saidOfEnding Check) d
 abbrev pub listened : Step → (reading : ℕ) → Device → Due
 listened step reading d = hears (step .heard) reading (withReader (step .reader) d)
 
--- In Off "all but registers is ignored", in Break "Edges, sent aside (Turn), and reports", in Check-link and Up "edges"; "While a page is out, edges are ignored."
+-- In Off "all but registers is ignored"; in Break "Edges, sent aside (Turn), and reports are ignored"; in Check-link and Up "edges ignored"; and "While a
+-- page is out, edges are ignored."
 unfoldable pub edgeDue : LineMode → (reading : ℕ) → Device → Due
 edgeDue mode reading d =
     if isTalking (d .state) && not (d .link .talk .out) then listened (edgeOf mode (d .link .reader) reading) reading d

@@ -1,6 +1,6 @@
 -- The device with one thing changed; all else stays. The record is put together only here and where a link is forgotten (Memory); other definitions read its fields.
 use Prim.Native.Nat.{ℕ}
-use mathlib.Core.Bool.{Bool}
+use mathlib.Core.Bool.{Bool, true, false}
 use Rattle.line_reader.specs.declared.reader.Reader.{Reader}
 use Rattle.port_state.specs.declared.page_registers.PageRegisters.{PageRegisters}
 use Rattle.port_state.specs.declared.Outcome.{Outcome}
@@ -66,6 +66,12 @@ abbrev pub withMark : (heard : Bool) (reading : ℕ) → Device → Device
 withMark heard reading d =
     let t = d .link .talk in
     withTalk (record { own = t .own; held = t .held; count = t .count; mark = reading; timer = t .timer; out = t .out; heard = heard; latch = t .latch }) d
+
+abbrev pub markHeard : (reading : ℕ) → Device → Device
+markHeard reading d = withMark true reading d
+
+abbrev pub markWaiting : (reading : ℕ) → Device → Device
+markWaiting reading d = withMark false reading d
 
 -- the reading at which the state's timer started, the link latch.
 abbrev pub withTimer : (reading : ℕ) → Device → Device

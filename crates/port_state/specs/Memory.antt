@@ -43,15 +43,16 @@ isOff state = byState state true false false false false false false
 abbrev pub isBreak : State → Bool
 isBreak state = byState state false true false false false false false
 
--- The states in which edges are not ignored.
+-- The states in which edges are heard, unless a page is out.
 abbrev pub isTalking : State → Bool
 isTalking state = byState state false false true true true false false
 
 abbrev pub isUp : State → Bool
 isUp state = byState state false false false false false false true
 
--- Nothing said and nothing heard. The timer stands at the reading given: in Break this starts the break timer; in Off it is 0 and never looked at. The
--- mark is set anew on leaving Break, and not looked at before.
+-- Nothing said and nothing heard: no own page, no held page, no page out, count 0, the link latch clear. The timer stands at the reading given: in Break
+-- this starts the break timer; in Off it is 0 and never looked at. The mark is set anew on leaving Break and not looked at before; until then it is
+-- "waiting" at the same reading.
 abbrev pub noTalk : (reading : ℕ) → Talk
 noTalk reading =
     record { own = 0; held = 0; count = 0; mark = reading; timer = reading; out = false; heard = false; latch = false }

@@ -11,13 +11,13 @@ use Rattle.port_state.specs.declared.State.the-variants.{Off, Break, Ability, A
 use Rattle.port_state.specs.declared.Outcome.the-variants.{Resolved, NoneYet}
 use Rattle.port_state.specs.declared.Device.{Device}
 use Rattle.port_state.specs.Memory.{Due, due, intoBreak}
-use Rattle.port_state.specs.Changes.{withState, withOutcome, withOut, withCount, withMark, withTimer}
+use Rattle.port_state.specs.Changes.{withState, withOutcome, withOut, withCount, markWaiting, withTimer}
 use Rattle.page_resolve.specs.declared.resolving.Resolution.the-variants.{Refused, Settled}
 use Rattle.port_state.specs.declared.Outcome.{Outcome}
 
 -- "Sent ends it and marks waiting."
 abbrev pub ended : (reading : ℕ) → Device → Device
-ended reading d = withMark false reading (withOut false d)
+ended reading d = markWaiting reading (withOut false d)
 
 -- "at three, resolve own and held page, answer and keep the outcome, go to Check-link, starting the inhibit timer. The partner's NP bit is not looked at."
 -- "In Complete a refusal of resolving, 4, 5 or 13 as well .., goes to Check-link without a rate."

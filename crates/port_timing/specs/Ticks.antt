@@ -3,7 +3,6 @@ use Prim.Native.Nat.{ℕ, _+_, _%_}
 use mathlib.Core.Bool.{Bool, true, false, not, _&&_}
 use mathlib.Core.List.{[], _∷_}
 use Rattle.answers.specs.Choices.{if_then_else_, _≤?_, _=?_, _<?_}
-use Rattle.page_resolve.specs.Rates.{t1sFull, t1l, t1sHalf}
 use Rattle.page_resolve.specs.Roles.{isForced, hasT4}
 use Rattle.page_resolve.specs.declared.resolving.Resolution.the-variants.{Refused, Settled}
 use Rattle.line_mode.specs.Clock.{timeBetween}
@@ -23,7 +22,7 @@ use Rattle.port_state.specs.declared.Link.{Link}
 use Rattle.port_state.specs.declared.Device.{Device}
 use Rattle.port_state.specs.PageRegisters.{wordOf}
 use Rattle.port_state.specs.Memory.{Due, due, intoBreak}
-use Rattle.port_state.specs.Changes.{withState, withOwn, withOut, withMark, withReader}
+use Rattle.port_state.specs.Changes.{withState, withOwn, withOut, markWaiting, withReader}
 
 -- "A timer has run out when the time since its start is at least its number, looked at on ticks only."
 abbrev pub runOut : (number start reading : ℕ) → Bool
@@ -37,11 +36,11 @@ lowSpeed = record { mode = lsmMode; breaking = 8000000; silent = 33000; wait = 3
 abbrev pub inhibit : ℕ
 inhibit = 97500000
 
--- "for 10BASE-T1S 402 000 000, for 10BASE-T1L 3 060 000 000"
+-- "for 10BASE-T1S 402 000 000, for 10BASE-T1L 3 060 000 000". By "Rate and role" 10BASE-T1S is A1 (full) and A22 (half), 10BASE-T1L is A9.
 abbrev pub inhibitFor : (ability : ℕ) → ℕ
 inhibitFor ability =
-    if among ability (t1sFull ∷ t1sHalf ∷ []) then 402000000
-    else if ability =? t1l then 3060000000
+    if among ability (1 ∷ 22 ∷ []) then 402000000
+    else if ability =? 9 then 3060000000
     else inhibit
 
 -- By the kept outcome.
@@ -68,7 +67,7 @@ echoingPage own held = withField Ack 1 (withField EchoedNonce (fieldOf Nonce hel
 -- "When the timer is out: own page is the advertisement ..; reader fresh; mark "waiting" now; to Ability."
 abbrev pub leavesBreak : (reading draw : ℕ) → Device → Device
 leavesBreak reading draw d =
-    withState Ability (withReader Fresh (withMark false reading (withOwn (ownPage (wordOf (d .lasting .advertised)) draw) d)))
+    withState Ability (withReader Fresh (markWaiting reading (withOwn (ownPage (wordOf (d .lasting .advertised)) draw) d)))
 
 -- Whether an attempt is open "whose last edge is less than the quiet limit old".
 abbrev pub holdsBack : (quiet : ℕ) → Reader → (reading : ℕ) → Bool
