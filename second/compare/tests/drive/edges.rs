@@ -18,8 +18,15 @@ fn list(length: u64) -> Vec<u64> {
 }
 
 #[test]
-fn the_gaps_of_01_are_judged_so() {
+fn the_table_of_01_holds() {
     assert_answers(&[
+        (Call::check(0), number(0)),
+        (Call::check(1 << 47), number(0x8005)),
+        (Call::check(1 << 46), number(0x800F)),
+        (Call::check(1 << 45), number(0x801B)),
+        (Call::write(HSM, 0, 0, 0, &list(81)), number(81)),
+        (Call::write(LSM, 0, 0, 0, &list(86)), number(86)),
+        (Call::write(HSM, 1 << 47, 0, 0, &list(85)), number(85)),
         (Call::judge(HSM, 20), UNFIT),
         (Call::judge(HSM, 21), number(1)),
         (Call::judge(HSM, 39), number(1)),

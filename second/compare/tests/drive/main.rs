@@ -19,5 +19,4 @@ mod runs;
 mod same_after_break;
 mod script;
 mod settling_log;
-mod table_of_01;
 mod walk;

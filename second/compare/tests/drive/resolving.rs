@@ -21,12 +21,15 @@ const TWO_TO_48: u64 = 1 << 48;
 const ALL_ONES: u64 = TWO_TO_48 - 1;
 
 #[test]
-fn the_other_end_of_01s_examples_has_the_other_role() {
+fn the_table_of_01_holds() {
     assert_answers(&[
+        (Call::resolve(0x850001, 0xA90001), settled(2, false)),
         (Call::resolve(0xA90001, 0x850001), settled(2, true)),
-        (Call::resolve(0xA91001, 0x851001), ROLES),
+        (Call::resolve(0x851001, 0xA91001), ROLES),
+        (Call::resolve(0x951001, 0xA90001), settled(2, true)),
         (Call::resolve(0xA90001, 0x951001), settled(2, false)),
-        (Call::resolve(0xA90001, 0x450001), NONE),
+        (Call::resolve(0x850001, 0x850001), TIE),
+        (Call::resolve(0x450001, 0xA90001), NONE),
     ]);
 }
 
