@@ -14,7 +14,6 @@ use Rattle.answers.specs.declared.Refusal.the-variants.{Room, Mode, Odd}
 use Rattle.line_mode.specs.declared.modes.Found.{Found}
 use Rattle.line_mode.specs.declared.modes.Found.the-variants.{Known, Unknown}
 use Rattle.line_mode.specs.Modes.{modeOf, byMode}
-use Rattle.bench_listing.specs.declared.input.Given.{Given}
 use Rattle.bench_listing.specs.declared.input.Given.the-variants.{Refused, Capture}
 use Rattle.bench_listing.specs.Listing.{givenIn, given}
 

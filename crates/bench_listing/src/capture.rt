@@ -1,6 +1,6 @@
 // The listing of a capture.
 ghost use mathlib.Core.Path.{_≡_};
-ghost use Prim.Native.Nat.{_<_, _≤_};
+ghost use Prim.Native.Nat.{_≤_};
 ghost use lib.ListN.{length};
 ghost use Rattle.answers.specs.Choices.{if_then_else_};
 ghost use Rattle.bench_listing.specs.Calls.{Puts};

@@ -12,7 +12,7 @@ use answers::Refusal;
 use line_mode::Found;
 use line_mode::mode_of;
 
-// Room for every listing: a first and a last line of 20 bytes and 8 000 lines of 23 bytes.
+// Room for every listing: a first and a last line of 20 bytes each and 8 000 lines of 23 bytes.
 const MOST_BYTES: usize = 184040;
 
 const MOST_READINGS: usize = 8000;

@@ -12,7 +12,6 @@ use lib.Seq.{drop-cons}
 use Rattle.line_mode.specs.declared.modes.LineMode.{LineMode}
 use Rattle.line_reader.specs.declared.endings.Ending.{Ending}
 use Rattle.line_reader.specs.declared.endings.Ending.the-variants.{Gap, Cut}
-use Rattle.line_reader.specs.declared.endings.Heard.{Heard}
 use Rattle.line_reader.specs.declared.endings.Heard.the-variants.{Nothing, Ended}
 use Rattle.line_reader.specs.declared.reader.Reader.{Reader}
 use Rattle.line_reader.specs.declared.reader.Reader.the-variants.{Fresh, Open, Dropping}

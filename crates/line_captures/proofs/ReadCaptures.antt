@@ -18,7 +18,6 @@ use Rattle.line_reader.specs.declared.reader.Reader.the-variants.{Fresh, Open, 
 use Rattle.line_mode.specs.Clock.{timeBetween}
 use Rattle.line_mode.specs.Gaps.{judgementOf}
 use Rattle.line_reader.specs.Reading.{dropsOn, edgeOf, heardAlong, readerAfter}
-use Rattle.line_captures.specs.declared.captures.ReadOutcome.{ReadOutcome}
 use Rattle.line_captures.specs.declared.captures.ReadOutcome.the-variants.{Attempt}
 use Rattle.line_captures.specs.Captures.{isOpen, opensAt, endsAt, attemptOf}
 use Rattle.line_captures.specs.ReadingBack.{BeginsWith}

@@ -6,7 +6,7 @@ use Prim.Native.Nat.{ℕ, zero, suc, _+_, _-_, _*_, _^_, _<_, _≤_}
 use native.Mathlib.Omega.{arith}
 use lib.Dec.{eqb, ltb}
 use lib.ListN.{length, drop, length-append, length-drop}
-use borrow.Author.Tests.{ltb-false, eqb-false, lt-ltb, lt-leb, le-ltb, ne-eqb}
+use borrow.Author.Tests.{lt-leb, le-ltb, ne-eqb}
 use Rattle.answers.specs.Answers.{number, pageRead, kept}
 use Rattle.answers.specs.declared.Refusal.the-variants.{Mode}
 use Rattle.line_mode.specs.declared.modes.LineMode.{LineMode}
@@ -21,7 +21,7 @@ use Rattle.line_reader.specs.declared.reader.Reader.the-variants.{Fresh, Open}
 use Rattle.line_mode.specs.Clock.{timeBetween}
 use Rattle.line_mode.specs.Modes.{hsmMode, lsmMode, modeOf, byMode}
 use Rattle.line_mode.proofs.Windows.{Apart, hsm-apart, lsm-apart}
-use Rattle.line_writer.specs.Transitions.{readings, edgeCount}
+use Rattle.line_writer.specs.Transitions.{edgeCount}
 use Rattle.line_writer.specs.Writing.{writeIn, writeOf}
 use Rattle.line_writer.proofs.WrittenList.{has-edges}
 use Rattle.line_reader.specs.Reading.{step, edgeOf, heardAlong, readerAfter}

@@ -1,7 +1,7 @@
 -- What is written is read back. The readings of a page at nominal spacing have gaps of so many spacings each, which lie in their windows; so the
 -- theorem of ReadBack holds of them, also where they stand in a list among others.
 use mathlib.Core.Path.{_≡_, refl, sym, ap, ap₂, _∙_, subst}
-use mathlib.Core.Bool.{Bool, true, false, not}
+use mathlib.Core.Bool.{Bool, true, false}
 use mathlib.Core.List.{List, [], _∷_, _++_, map, map-append, Forall₂, Forall₂·nil, Forall₂·cons}
 use Prim.Native.Nat.{ℕ, zero, suc, _+_, _-_, _*_, _%_, _^_, _<_, _≤_}
 use native.Mathlib.Nat.{add-mul, mul-le-mul-right}

@@ -1,14 +1,14 @@
 -- What the pattern asks, by kinds of positions: in the delimiter a span of a mask, computed; after a clock one or two positions, after a
 -- bit one, after 155 two, and nothing elsewhere.
 use mathlib.Core.Path.{_≡_, refl, sym, ap, _∙_}
-use mathlib.Core.Bool.{Bool, true, false, cond, not, _&&_, Bool·beq, true≢false, and-false}
+use mathlib.Core.Bool.{Bool, true, false, cond, not, _&&_, Bool·beq, and-false}
 use Prim.Native.Nat.{ℕ, zero, suc, _+_, _-_, _*_, _/_, _%_, _^_, _<_, _≤_}
 use native.Mathlib.Nat.{mul-comm, pow-suc}
 use native.Mathlib.Numerals.{add-one}
 use native.Mathlib.Omega.{arith}
 use lib.Dec.{leb, eqb}
 use lib.Pow.{shl-exact}
-use borrow.Author.Tests.{leb-true, leb-false, eqb-true, eqb-false, lt-leb}
+use borrow.Author.Tests.{eqb-true, eqb-false, lt-leb}
 use Rattle.page_word.proofs.ComputedTest.{everyBelow, at-each, beq-equal}
 use Rattle.line_mode.specs.declared.modes.LineMode.{LineMode}
 use Rattle.line_mode.specs.declared.modes.Judgement.the-variants.{Positions, Quiet, Unfit}

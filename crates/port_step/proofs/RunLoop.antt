@@ -33,12 +33,6 @@ no-event (kind ∷ []) h = refl
 no-event (kind ∷ clock ∷ []) h = refl
 no-event (kind ∷ clock ∷ argument ∷ rest) h = absurd (let z : 3 ≤ length (kind ∷ clock ∷ argument ∷ rest) = omega arith in omega arith)
 
--- As many answers as events.
-count-says : (d : Device) (events : List Event) → length (saysTo d events) ≡ length events
-unfolding saysTo
-count-says d [] = refl
-count-says d (e ∷ later) = ap suc (count-says (stepDue e d .device) later)
-
 -- The cells from a place on, where three are left.
 three-cells : (cells : List ℕ) (place : ℕ) → place + 3 ≤ length cells
     → drop place cells ≡ getD cells place 0 ∷ (getD cells (place + 1) 0 ∷ (getD cells (place + 2) 0 ∷ drop (place + 3) cells))

@@ -1,4 +1,3 @@
-use mathlib.Core.Path.{ap, _∙_}
 use borrow.Author.Needs.{needs}
 use Rattle.line_reader.proofs.endings.Heard.answer.Statement.{statement}
 use Rattle.line_reader.proofs.endings.Heard.answer.Tie as tie
