@@ -14,7 +14,7 @@ pub record Listed : Type 0 where
   pub readings : List ℕ
   pub output : List ℕ
 
--- The number of bytes of the listing; the input's readings and the listing, each at the head of its list. If there is no room for 8 000 readings in the one
+-- The number of bytes of the listing; the readings that are listed and the listing, each at the head of its list. If there is no room for 8 000 readings in the one
 -- list, or in the other for a first and a last line of 20 bytes each and 8 000 lines of 23 bytes (no listing is longer), 12, Room, whatever the input, and
 -- both are left as they were. (14, 12 and 15 for the input are text, and this call does not answer them.)
 unfoldable pub listed : (input readings output : List ℕ) → Listed

@@ -42,13 +42,13 @@ opensAt mode reader (x ∷ rest) at =
     if isOpen after then at
     else opensAt mode after rest (at + 1)
 
--- An edge of an attempt: the attempt goes on, or it has ended, and `next` is where the next one opens.
+-- An edge of an attempt: the attempt goes on, or it has ended, and `next` is where the next one opens, or the length.
 abbrev pub endsAt : Heard → (goes-on : ReadOutcome) (next : ℕ) → ReadOutcome
 endsAt Nothing goes-on next = goes-on
 endsAt (Ended ending) goes-on next = Attempt ending next
 
 -- "the first attempt's outcome, the end of the capture counting as quiet": how it ends at the first edge that ends it; at the end of the
--- list, Cut, and none opens. The next attempt opens at the edge that ends this one, as "that edge opens the next" after Cut, or at a later one. (The read call
+-- list, Cut. The next attempt opens at the edge that ends this one, as "that edge opens the next" after Cut, or at a later one, or none does. (The read call
 -- asks this of a fresh reader and at least one edge, so an attempt is open at the end of the list.)
 unfoldable pub attemptOf : (mode : LineMode) (reader : Reader) (edges : List ℕ) (at : ℕ) → ReadOutcome
 attemptOf mode reader [] at = Attempt Cut (opensAt mode reader [] at)

@@ -60,7 +60,7 @@ abbrev pub echoesOther : (own word : ℕ) → Bool
 echoesOther own word = not (fieldOf field.EchoedNonce word =? fieldOf field.Nonce own)
 
 -- "Ack: on a good page that differs from the held one beyond Ack and E: Changed, to Break. Ack 0: mark heard. Ack 1 and E not own T: Echo, to
--- Break. Else mark heard, load ..."
+-- Break. Else mark heard, load .."
 unfoldable pub pageInAck : (word reading : ℕ) → Device → Due
 pageInAck word reading d =
     if isChanged word (d .link .talk .held) then due (refused refusal.Changed) (intoBreak reading d)
@@ -68,7 +68,7 @@ pageInAck word reading d =
     else if echoesOther (d .link .talk .own) word then due (refused refusal.Echo) (intoBreak reading d)
     else takes word (intoComplete word reading d)
 
--- "Complete: a good page marks heard." In the other states no edge is read, so no page comes.
+-- "Complete: a good page marks heard." In Off, Break, Check-link and Up no edge is read, so no page comes.
 unfoldable pub pageIn : State → (word reading : ℕ) → Device → Due
 pageIn Off word reading d = due nothing d
 pageIn Break word reading d = due nothing d
@@ -78,7 +78,7 @@ pageIn Complete word reading d = takes word (markHeard reading d)
 pageIn CheckLink word reading d = due nothing d
 pageIn Up word reading d = due nothing d
 
--- What was heard: of a good page the state decides, anything else is answered.
+-- What was heard: of a good page the state decides; Gap, Cut and Check are answered.
 unfoldable pub hears : Heard → (reading : ℕ) → Device → Due
 hears Nothing reading d = due nothing d
 hears (Ended (Good word)) reading d = pageIn (d .state) word reading d

@@ -1,7 +1,7 @@
 -- What the customer's demands 2 and 3 say beyond the contracts of the calls, in one place. The rest is the contracts themselves, which say that the code's
 -- result is what the definition has (`Meets` does so for a device's reply): so "each step" follows 01, and so it is with demand 1.
 -- Demand 1, "Every call takes any input and ends. Nobody checks anything beforehand. A refusal carries one number from 01's table, exactly when its condition
--- holds; state and lent memory afterwards are as written there", is no field here. Each function's contract holds it: it is proved at every input that the
+-- holds; state and lent memory afterwards are as written there", has only worked examples here. Each function's contract holds it: it is proved at every input that the
 -- function is safe, ends and answers and leaves what its definition has; and no public function has a `requires`, which `tools/no-requires` checks.
 use Rattle.line_mode.specs.Modes.{hsmMode, lsmMode}
 use Rattle.line_captures.specs.ReadingBack.{ReadingBack}

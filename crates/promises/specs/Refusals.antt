@@ -56,8 +56,8 @@ pageUnchecked reading word =
     (map (readingAt (lsmMode .spacing) reading)
     (positionsTo (hasTransition lsmMode (bitsOf 48 word ++ replicate 16 false)) 157))
 
--- As in the first link, but with these values in 514 and 515 and this page from the partner, which comes again with Ack 1 and the own nonce, 5, echoed;
--- three pages are sent, and then the link comes up.
+-- As in the first link, but with these values in 514 and 515 and this page from the partner, which comes again with Ack 1 and 5 echoed, the own nonce in
+-- both uses; three pages are ordered and sent, and then link up is reported.
 abbrev pub settlingWith : (low middle word : ℕ) → List Event
 settlingWith low middle word =
     (Write 0 514 low ∷ Write 0 515 middle ∷ Write 0 512 (2 ^ 12) ∷ Tick 8000000 5 ∷ [])
