@@ -1,6 +1,6 @@
 -- No second answer says the same: a promise about what is said fixes the answer.
 -- `heard` finds the answer again from what was said, so two answers that say the same are one.
--- The number of an ability is a byte in the code; here that is the premise `Sayable`.
+-- The number of an ability is a byte in the code; here that is the premise `abilityIsByte`.
 use mathlib.Core.Path.{_≡_, refl, sym, ap, _∙_}
 use mathlib.Core.Bool.{Bool, true, false, cond}
 use Prim.Native.Nat.{ℕ, _+_, _-_, _/_, _^_, _<_, _≤_}
@@ -9,13 +9,13 @@ use native.Mathlib.Omega.{arith}
 use lib.Arith.{digits-div}
 use lib.Dec.{eqb, leb, ltb}
 use lib.Pow.{pow-pos}
-use borrow.Author.Tests.{le-leb, lt-leb, ne-eqb}
+use borrow.Author.Tests.{le-leb, lt-leb, ltb-true}
 use Rattle.answers.specs.declared.Refusal.{Refusal}
 use Rattle.answers.specs.declared.Refusal.the-variants.{Gap, Cut, Check, Selector, Tie, Changed, Echo, None, Roles, Register, Turn, Room, Wide, Mode, Odd}
 use Rattle.answers.specs.declared.Answer.{Answer}
 use Rattle.answers.specs.declared.Answer.the-variants.{Nothing, Refused, Page, Order, Settled, Value, Number, Quiet, Unfit}
 use Rattle.answers.specs.Numbers.{numberOf}
-use Rattle.answers.specs.Answers.{Said, said, packed}
+use Rattle.answers.specs.Answers.{Said, said, abilityIsByte, packed}
 
 -- The refusal with a number of 01's table; past its end the last.
 abbrev refusalAt : ℕ → Refusal
@@ -53,18 +53,6 @@ answerAt kind value =
 abbrev heard : Said → Answer
 heard s = answerAt (s .kind) (s .value)
 
--- The number of an ability is a byte.
-abbrev pub Sayable : Answer → Type 0
-Sayable Nothing = Unit {0}
-Sayable (Refused r) = Unit {0}
-Sayable (Page w) = Unit {0}
-Sayable (Order w) = Unit {0}
-Sayable (Settled a m) = a < 256
-Sayable (Value v) = Unit {0}
-Sayable (Number n) = Unit {0}
-Sayable Quiet = Unit {0}
-Sayable Unfit = Unit {0}
-
 refusal-again : (r : Refusal) → heard (said (Refused r)) ≡ Refused r
 refusal-again Gap = refl
 refusal-again Cut = refl
@@ -86,18 +74,18 @@ settled-again : (a : ℕ) (m : Bool) → a < 256 → heard (said (Settled a m)) 
 settled-again a true h = let e : leb 256 (a + 256) ≡ true = le-leb 256 (a + 256) (omega arith) in let d : a + 256 - 256 ≡ a = omega arith in rw e (rw d refl)
 settled-again a false h = rw (lt-leb 256 a h) refl
 
-again : (a : Answer) → Sayable a → heard (said a) ≡ a
+again : (a : Answer) → abilityIsByte a ≡ true → heard (said a) ≡ a
 again Nothing h = refl
 again (Refused r) h = refusal-again r
 again (Page w) h = refl
 again (Order w) h = refl
-again (Settled a m) h = settled-again a m h
+again (Settled a m) h = settled-again a m (ltb-true a 256 h)
 again (Value v) h = refl
 again (Number n) h = refl
 again Quiet h = refl
 again Unfit h = refl
 
-pub one-answer : (a b : Answer) → Sayable a → Sayable b → said a ≡ said b → a ≡ b
+pub one-answer : (a b : Answer) → abilityIsByte a ≡ true → abilityIsByte b ≡ true → said a ≡ said b → a ≡ b
 one-answer a b ha hb e = sym (again a ha) ∙ ap heard e ∙ again b hb
 
 -- A refusal says something: no refusal has the number 0.

@@ -1,13 +1,13 @@
 -- What is said to the caller, for each case of an answer.
 -- 01, "Language forms in the code": "Whenever an answer is an enum, a definition gives this paper's number and values for each of the enum's cases. The promises use that definition."
 use Prim.Native.Nat.{ℕ, _+_, _*_, _%_, _^_}
-use mathlib.Core.Bool.{Bool}
+use mathlib.Core.Bool.{Bool, true}
 use mathlib.Core.List.{List, [], _∷_, _++_}
 use lib.ListN.{length, take, drop}
 use Rattle.answers.specs.declared.Refusal.{Refusal}
 use Rattle.answers.specs.declared.Answer.{Answer}
 use Rattle.answers.specs.declared.Answer.the-variants.{Nothing, Refused, Page, Order, Settled, Value, Number, Quiet, Unfit}
-use Rattle.answers.specs.Choices.{if_then_else_, _=?_}
+use Rattle.answers.specs.Choices.{if_then_else_, _<?_, _=?_}
 use Rattle.answers.specs.Numbers.{numberOf}
 
 -- The kind is a refusal's number in 01's table, 0 for nothing, or, of an answer that is no refusal, one of the numbers from
@@ -66,8 +66,23 @@ said (Number n) = number n
 said Quiet = gapQuiet
 said Unfit = gapUnfit
 
+-- The number of an ability is a byte, by its type in the code (`u8`): 256 and no master would be said as 0 and master are.
+abbrev pub isByte : (ability : ℕ) → Bool
+isByte ability = ability <? 256
+
+abbrev pub abilityIsByte : Answer → Bool
+abilityIsByte Nothing = true
+abilityIsByte (Refused refusal) = true
+abilityIsByte (Page word) = true
+abilityIsByte (Order word) = true
+abilityIsByte (Settled ability master) = isByte ability
+abilityIsByte (Value value) = true
+abilityIsByte (Number n) = true
+abilityIsByte Quiet = true
+abilityIsByte Unfit = true
+
 -- The same as one number of 64 bits, the kind in the top byte and the value in the 56 bits below it; a value of 2^56 or more,
--- which no call answers on a record that calls have made, loses its upper bits.
+-- which no event answers on a device that calls have made (promises/specs/MadeByCalls), loses its upper bits.
 abbrev pub packed : Said → ℕ
 packed s = s .kind * 2 ^ 56 + s .value % 2 ^ 56
 
