@@ -9,6 +9,7 @@ pub mod ReadBack
 pub mod OnlyPages
 pub mod ReadCaptures
 pub mod SinceOpened
+pub mod PageEdges
 pub mod CaptureShift
 pub mod WriteThenRead
 pub mod ReadTheorem

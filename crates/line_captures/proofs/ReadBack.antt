@@ -32,7 +32,7 @@ use Rattle.line_captures.proofs.SentGaps.{transition-gaps}
 use Rattle.line_captures.proofs.ReadBits.{pushed-all, sent-agrees, sent-word}
 
 -- A page's first edge opens an attempt: after a fresh reader,
-fresh-opens : (m : LineMode) (reading : ℕ) → edgeOf m Fresh reading ≡ step Nothing (Open 1 reading 0)
+pub fresh-opens : (m : LineMode) (reading : ℕ) → edgeOf m Fresh reading ≡ step Nothing (Open 1 reading 0)
 unfolding edgeOf
 fresh-opens m reading = refl
 

@@ -6,7 +6,7 @@ use Prim.Native.Nat.{ℕ, zero, suc, _+_, _-_, _*_, _^_, _<_, _≤_}
 use native.Mathlib.Omega.{arith}
 use lib.Dec.{eqb, ltb}
 use lib.ListN.{length, drop, length-append, length-drop}
-use borrow.Author.Tests.{lt-leb, le-ltb, ne-eqb}
+use borrow.Author.Tests.{le-leb, lt-leb, le-ltb, ne-eqb}
 use Rattle.answers.specs.Answers.{number, pageRead, kept}
 use Rattle.answers.specs.declared.Refusal.the-variants.{Mode}
 use Rattle.line_mode.specs.declared.modes.LineMode.{LineMode}
@@ -30,9 +30,10 @@ use Rattle.line_captures.specs.Captures.{saidOfRead, isOpen, attemptOf, 
 use Rattle.line_captures.specs.ReadingBack.{Carries, onlyLast, BeginsWith, ReadingBack}
 use Rattle.line_captures.proofs.SaysPage.{heard-page, read-page}
 use Rattle.line_captures.proofs.EdgeRuns.{lastOf, afterSilence, at-last}
-use Rattle.line_captures.proofs.ReadBack.{as-many, opened-reads, fresh-reads, dropping-opens, open-opens}
+use Rattle.line_captures.proofs.ReadBack.{as-many, opened-reads, fresh-reads}
 use Rattle.line_captures.proofs.ReadCaptures.{page-answer, answered-carried}
-use Rattle.line_captures.proofs.SinceOpened.{after-append, LastAt, held, dropped, last-at, page-heard}
+use Rattle.line_captures.proofs.SinceOpened.{startsAt, after-append, LastAt, held, dropped, last-at, page-heard}
+use Rattle.line_captures.proofs.PageEdges.{starting}
 use Rattle.line_captures.proofs.WriteThenRead.{written-carries, write-then-read}
 use Rattle.line_captures.proofs.Walk.{walk-step, read-known, attempts-told}
 
@@ -41,11 +42,10 @@ same-last : (n : ℕ) (s t : Heard) → afterSilence n s ≡ afterSilence n t �
 same-last zero s t h = cc h
 same-last (suc n) s t h = same-last n s t (cc h)
 
--- An edge that follows quiet opens an attempt, whatever the reader held.
-quiet-opens : (m : LineMode) → Apart m → (r : Reader) (last x : ℕ) → LastAt last r → m .quiet ≤ timeBetween x last
-    → edgeOf m r x ≡ step (cond (isOpen r) (Ended Cut) Nothing) (Open 1 x 0)
-quiet-opens m apart r last x (held at bits) q = open-opens m apart last x q at bits
-quiet-opens m apart r last x dropped q = dropping-opens m apart last x q
+-- An edge that follows quiet may open an attempt.
+quiet-starts : (m : LineMode) (r : Reader) (last x : ℕ) → LastAt last r → m .quiet ≤ timeBetween x last → startsAt m r x ≡ true
+quiet-starts m r last x (held at bits) q = le-leb (m .quiet) (timeBetween x last) q
+quiet-starts m r last x dropped q = le-leb (m .quiet) (timeBetween x last) q
 
 -- The read call in a mode: inside the capture it is the first attempt from the place on.
 inside : (m : LineMode) (capture : List ℕ) (place : ℕ) → place < length capture → readIn m capture place ≡ attemptOf m Fresh (drop place capture) place
@@ -88,8 +88,9 @@ reading-back mode m known apart clock =
       fresh = λ w edges word carried. at-last m Fresh edges (Ended (Good w)) (fresh-reads m apart w word edges carried .told);
       after-quiet = λ past last x w edges q word carried.
           after (readerAfter m Fresh (past ++ (last ∷ []))) x w edges
-          (quiet-opens m apart (readerAfter m Fresh (past ++ (last ∷ []))) last x
-          (subst (LastAt last) (sym (after-append m Fresh past (last ∷ []))) (last-at m (readerAfter m Fresh past) last)) q) word carried;
+          (starting m apart (readerAfter m Fresh (past ++ (last ∷ []))) x
+          (quiet-starts m (readerAfter m Fresh (past ++ (last ∷ []))) last x
+          (subst (LastAt last) (sym (after-append m Fresh past (last ∷ []))) (last-at m (readerAfter m Fresh past) last)) q)) word carried;
       one-word = λ v w edges below word first second.
           let same = same-last (length edges - 1) (Ended (Good v)) (Ended (Good w))
           (sym (fresh-reads m apart v below edges first .told) ∙ fresh-reads m apart w word edges second .told) in cc same;

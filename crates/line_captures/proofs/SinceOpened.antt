@@ -21,6 +21,7 @@ use Rattle.line_mode.specs.Gaps.{judgementOf}
 use Rattle.line_reader.specs.Reading.{dropsOn, goesOn, edgeOf, heardAlong, readerAfter}
 use Rattle.line_captures.specs.Captures.{isOpen}
 use Rattle.line_captures.specs.ReadingBack.{opensAfter, EndsWith}
+use Rattle.line_captures.proofs.EdgeRuns.{Carried}
 use Rattle.line_captures.proofs.JudgedGaps.{judged-quiet}
 use Rattle.line_captures.proofs.OnlyPages.{Edge, cut, wrong, passing, ending, edge-cases, only-carried}
 use Rattle.line_captures.proofs.ReadCaptures.{shut-silent}
@@ -145,26 +146,39 @@ opens-after m r y x [] = by (edgeOf m r y .reader) (last-at m r y)
     by s dropped = refl
 opens-after m r y x (z ∷ before) = opens-after m (edgeOf m r y .reader) z x before
 
-starts-opens : (m : LineMode) (before : List ℕ) (x : ℕ) → startsAt m (readerAfter m Fresh before) x ≡ true → opensAfter m before x ≡ true
-starts-opens m [] x h = refl
-starts-opens m (y ∷ before) x h = sym (opens-after m Fresh y x before) ∙ h
+pub starts-opens : (m : LineMode) (before : List ℕ) (x : ℕ) → startsAt m (readerAfter m Fresh before) x ≡ opensAfter m before x
+starts-opens m [] x = refl
+starts-opens m (y ∷ before) x = opens-after m Fresh y x before
 
 -- A page heard after any edges: the edges since the one that opened the attempt, and this one, carry its word.
-pub page-heard : (m : LineMode) (past : List ℕ) (x w : ℕ) → edgeOf m (readerAfter m Fresh past) x .heard ≡ Ended (Good w) → EndsWith m w (past ++ (x ∷ []))
-page-heard m past x w h = by (holds-on m [] past (none refl))
+pub record HeardSince (m : LineMode) (w : ℕ) (past : List ℕ) (x : ℕ) : Type 0 where
+  pub attempt : Opened m past
+  pub carried : Carried m w (attempt .first ∷ (attempt .since ++ (x ∷ [])))
+
+pub heard-since : (m : LineMode) (past : List ℕ) (x w : ℕ) → edgeOf m (readerAfter m Fresh past) x .heard ≡ Ended (Good w) → HeardSince m w past x
+heard-since m past x w h = by (holds-on m [] past (none refl))
   where
-    by : Holds m past → EndsWith m w (past ++ (x ∷ []))
+    by : Holds m past → HeardSince m w past x
     by (none n) = absurd (let e = shut-silent m (readerAfter m Fresh past) x n in let z : _≡_ {A = ℕ} 0 1 = cc in omega arith)
     by (attempt o) =
-        let c = only-carried m (length (o .since)) w (o .first) (o .since ++ (x ∷ []))
-        (heard-append m (Open 1 (o .first) 0) (o .since) (x ∷ [])
-        ∙ ap₂ (λ (l : List Heard) (s : Heard). l ++ (s ∷ [])) (o .silent) (ap (λ (r : Reader). edgeOf m r x .heard) (sym (since-opened m past o)) ∙ h)) in
         record {
-          before = o .before;
-          first = o .first;
-          later = o .since ++ (x ∷ []);
-          whole = ap (λ (l : List ℕ). l ++ (x ∷ [])) (o .whole) ∙ append-assoc (o .before) (o .first ∷ o .since) (x ∷ []);
-          opened = starts-opens m (o .before) (o .first) (o .starts);
-          word = c .word;
-          carried = c .carried;
+          attempt = o;
+          carried =
+              only-carried m (length (o .since)) w (o .first) (o .since ++ (x ∷ []))
+              (heard-append m (Open 1 (o .first) 0) (o .since) (x ∷ [])
+              ∙ ap₂ (λ (l : List Heard) (s : Heard). l ++ (s ∷ [])) (o .silent) (ap (λ (r : Reader). edgeOf m r x .heard) (sym (since-opened m past o)) ∙ h));
         }
+
+pub page-heard : (m : LineMode) (past : List ℕ) (x w : ℕ) → edgeOf m (readerAfter m Fresh past) x .heard ≡ Ended (Good w) → EndsWith m w (past ++ (x ∷ []))
+page-heard m past x w h =
+    let s = heard-since m past x w h in
+    let o = s .attempt in
+    record {
+      before = o .before;
+      first = o .first;
+      later = o .since ++ (x ∷ []);
+      whole = ap (λ (l : List ℕ). l ++ (x ∷ [])) (o .whole) ∙ append-assoc (o .before) (o .first ∷ o .since) (x ∷ []);
+      opened = sym (starts-opens m (o .before) (o .first)) ∙ o .starts;
+      word = s .carried .word;
+      carried = s .carried .carried;
+    }

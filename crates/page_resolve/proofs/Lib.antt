@@ -3,3 +3,4 @@ pub mod FirstInOrder
 pub mod Exchange
 pub mod LookedAt
 pub mod ResolveExamples
+pub mod SettledAnswers
