@@ -12,4 +12,10 @@ pub mod Links
 pub mod Refused
 pub mod PagesApart
 pub mod EndsAgree
+pub mod SoundWords
+pub mod Sound
+pub mod MadeFacts
+pub mod DeviceReads
+pub mod Single
+pub mod Unmade
 pub mod TheDemands

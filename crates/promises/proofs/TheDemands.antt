@@ -1,6 +1,10 @@
 -- The customer's demands hold.
 use Rattle.promises.specs.Demands.{Demands}
 use Rattle.line_captures.proofs.ReadingProved.{high-speed-back, low-speed-back}
+use Rattle.promises.proofs.Single.{no-second-answer}
+use Rattle.promises.proofs.Unmade.{not-made}
+use Rattle.promises.proofs.MadeFacts.{made-by-calls}
+use Rattle.promises.proofs.DeviceReads.{at-the-device}
 use Rattle.promises.proofs.PagesApart.{small-damage}
 use Rattle.promises.proofs.EndsAgree.{both-ends}
 use Rattle.promises.proofs.NoPageOutlives.{no-page-outlives-its-link}
@@ -12,8 +16,12 @@ use Rattle.promises.proofs.Refused.{each-refusal}
 pub demands : Demands
 demands =
     record {
+      no-second-answer = no-second-answer;
+      not-made = not-made;
+      made-by-calls = made-by-calls;
       high-speed = high-speed-back;
       low-speed = low-speed-back;
+      at-the-device = at-the-device;
       small-damage = small-damage;
       both-ends = both-ends;
       no-page-outlives-its-link = no-page-outlives-its-link;

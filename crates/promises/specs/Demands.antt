@@ -1,10 +1,14 @@
--- What the customer's demands 2 and 3 say beyond the contracts of the calls, in one place. The rest is the contracts themselves, which say that the code's
--- result is what the definition has (`Meets` does so for a device's reply): so "each step" follows 01, and so it is with demand 1.
--- Demand 1, "Every call takes any input and ends. Nobody checks anything beforehand. A refusal carries one number from 01's table, exactly when its condition
--- holds; state and lent memory afterwards are as written there", has only worked examples here. Each function's contract holds it: it is proved at every input that the
+-- What the customer's demands say beyond the contracts of the calls, in one place. The rest is the contracts themselves, which say that the code's
+-- result is what the definition has (`Meets` does so for a device's reply): so "each step of negotiation" follows 01, and so it is with demand 1, "Every call takes
+-- any input, and every one ends. Nobody has to check anything beforehand. A refusal carries one number from document 01's table, given when its condition holds and
+-- not otherwise, and the state and lent memory after it are as written there." Each function's contract holds it: it is proved at every input that the
 -- function is safe, ends and answers and leaves what its definition has; and no public function has a `requires`, which `tools/no-requires` checks.
 use Rattle.line_mode.specs.Modes.{hsmMode, lsmMode}
 use Rattle.line_captures.specs.ReadingBack.{ReadingBack}
+use Rattle.promises.specs.OneAnswer.{NoSecondAnswer}
+use Rattle.promises.specs.NotMade.{NotMade}
+use Rattle.promises.specs.MadeByCalls.{MadeByCalls}
+use Rattle.promises.specs.AtTheDevice.{ReadingAtTheDevice}
 use Rattle.promises.specs.TwoPasts.{NoPageOutlivesItsLink, AsIfNew}
 use Rattle.promises.specs.FirstLink.{FirstLink}
 use Rattle.promises.specs.Refusals.{EachRefusal}
@@ -14,18 +18,27 @@ use Rattle.promises.specs.SmallDamage.{SmallDamage}
 use Rattle.promises.specs.BothEnds.{BothEnds}
 
 pub record Demands : Type 0 where
-  -- Demand 2: "Exactly 01. Pages become line transitions and transitions pages; a page sent, each gap in its window, is read back as itself, and nothing else
-  -- is read as a page. Check bits, registers, each step, rate and role follow 01." What each call answers is fixed by its contract, which cites the
-  -- definitions that write 01 out; that pages are read back, and nothing else, at both speeds ("Mode 0 is HSM", "Mode 1 is LSM"), is said here:
+  -- Demand 1, beyond the contracts. 01, "What the promises have to say": "That no second answer fits is proved".
+  pub no-second-answer : NoSecondAnswer
+  -- "A device or reader record that no call has made is taken too": some worked out,
+  pub not-made : NotMade
+  -- and what is so of all that calls have made.
+  pub made-by-calls : MadeByCalls
+  -- Demand 2: "Pages become line transitions, and transitions pages, exactly by Clause 98 as condensed in 01: transitions after quiet or a fresh start, each gap in
+  -- its window, read back as the page sent, and no others read as a page. Check bits, registers, each step of negotiation, rate and role follow 01." What each call
+  -- answers is fixed by its contract, which cites the definitions that write 01 out; that pages are read back, and nothing else, is said here: of
+  -- the edge reader and of captures at both speeds ("Mode 0 is HSM", "Mode 1 is LSM"),
   pub high-speed : ReadingBack 0 hsmMode
   pub low-speed : ReadingBack 1 lsmMode
+  -- and of a device.
+  pub at-the-device : ReadingAtTheDevice
   -- "good if the check bits agree": no small damage makes another page of a page.
   pub small-damage : SmallDamage
   -- "Common bits, first in this order", and one end is master.
   pub both-ends : BothEnds
-  -- Demand 3: "No page outlives its link. Two modules with any two pasts, each just gone into Break, with the same advertisement registers, given the same
-  -- later events and draws (the second's clock readings shifted by the difference of the entry readings modulo 2^32), give the same answers, register values
-  -- and ordered pages; only bits 6 and 4 of 7.513 may differ, up to and with its first read."
+  -- Demand 3: "Take two modules with any two pasts from fresh, each just gone into Break, with the same advertisement registers. Give both the same later events and
+  -- draws, the second's clock readings all shifted by the difference of their entry readings modulo 2^32. Then every answer, register value and ordered page, as demand 2
+  -- defines them, is the same at both. Only bits 6 and 4 of register 7.513 may differ, up to and with its first read."
   pub no-page-outlives-its-link : NoPageOutlivesItsLink
   -- What it comes to for one module: after Break, no answer depends on any page heard before it, but for these two bits.
   pub as-if-new : AsIfNew

@@ -5,4 +5,8 @@ pub mod WorkedPasts
 pub mod Table
 pub mod FirstLink
 pub mod Refusals
+pub mod AtTheDevice
+pub mod MadeByCalls
+pub mod OneAnswer
+pub mod NotMade
 pub mod Demands

@@ -1,6 +1,6 @@
--- The customer's demand 3: "No page outlives its link. Two modules with any two pasts, each just gone into Break, with the same advertisement
--- registers, given the same later events and draws (the second's clock readings shifted by the difference of the entry readings modulo 2^32), give
--- the same answers, register values and ordered pages; only bits 6 and 4 of 7.513 may differ, up to and with its first read."
+-- The customer's demand 3: "Take two modules with any two pasts from fresh, each just gone into Break, with the same advertisement registers. Give both the
+-- same later events and draws, the second's clock readings all shifted by the difference of their entry readings modulo 2^32. Then every answer, register value and
+-- ordered page, as demand 2 defines them, is the same at both. Only bits 6 and 4 of register 7.513 may differ, up to and with its first read."
 use Prim.Native.Nat.{ℕ, _+_, _%_, _^_}
 use mathlib.Core.Path.{_≡_}
 use mathlib.Core.Bool.{Bool, true, false, not, _&&_, _||_}
@@ -32,7 +32,7 @@ restarts Unnamed = false
 abbrev pub entersBreak : Event → Device → Bool
 entersBreak e d = isBreak (stepDue e d .device .state) && (not (isBreak (d .state)) || restarts e)
 
--- A module with any past: any events from a fresh device on, and one more, which has just taken it into Break.
+-- "any two pasts from fresh": any events from a fresh device on, and one more, which has just taken it into Break.
 pub record Module : Type 0 where
   pub past : List Event
   pub entry : Event
@@ -52,7 +52,7 @@ readingOf (Read reading register) = reading
 readingOf (Write reading register value) = reading
 readingOf Unnamed = 0
 
--- "the difference of the entry readings modulo 2^32"
+-- "the difference of their entry readings modulo 2^32"
 abbrev pub difference : (first second : Module) → ℕ
 difference first second = timeBetween (readingOf (second .entry)) (readingOf (first .entry))
 
@@ -60,7 +60,7 @@ difference first second = timeBetween (readingOf (second .entry)) (readingOf (fi
 abbrev pub shifted : (δ reading : ℕ) → ℕ
 shifted δ reading = (reading + δ) % 2 ^ 32
 
--- "the same later events and draws (the second's clock readings shifted by ..)": nothing but the reading changes.
+-- "the same later events and draws, the second's clock readings all shifted": nothing but the reading changes.
 abbrev pub shiftedBy : (δ : ℕ) → Event → Event
 shiftedBy δ (Edge reading) = Edge (shifted δ reading)
 shiftedBy δ (Tick reading draw) = Tick (shifted δ reading) draw
@@ -70,7 +70,7 @@ shiftedBy δ (Read reading register) = Read (shifted δ reading) register
 shiftedBy δ (Write reading register value) = Write (shifted δ reading) register value
 shiftedBy δ Unnamed = Unnamed
 
--- "only bits 6 and 4 of 7.513 may differ": an answer whose value is taken with these two bits 0.
+-- "Only bits 6 and 4 of register 7.513 may differ": an answer whose value is taken with these two bits 0.
 unfoldable pub without6And4 : Said → Said
 without6And4 s = saying (s .kind) (withPart 6 1 0 (withPart 4 1 0 (s .value)))
 
@@ -84,7 +84,7 @@ readsStatus (Read reading register) = register =? 513
 readsStatus (Write reading register value) = false
 readsStatus Unnamed = false
 
--- "the same answers", and "up to and with its first read": an answer for each event, whole but for the first to a read of 7.513, which is taken without
+-- "every answer", and "up to and with its first read": an answer for each event, whole but for the first to a read of 7.513, which is taken without
 -- bits 6 and 4.
 unfoldable pub compared : List Event → List Said → List Said
 compared [] says = says
@@ -96,23 +96,23 @@ unfoldable pub statusWasRead : List Event → Bool
 statusWasRead [] = false
 statusWasRead (e ∷ later) = readsStatus e || statusWasRead later
 
--- "register values": what a read of a register would answer after all events, whole but for 7.513 if it has not been read.
+-- "register value": what a read of a register would answer after all events, whole but for 7.513 if it has not been read.
 unfoldable pub comparedValue : List Event → (register : ℕ) → Said → Said
 comparedValue later register value = if register =? 513 && not (statusWasRead later) then without6And4 value else value
 
--- "ordered pages": the words of the answers that order a page, in order.
+-- "ordered page": the words of the answers that order a page, in order.
 unfoldable pub orderedPages : List Said → List ℕ
 orderedPages [] = []
 orderedPages (s ∷ rest) = let more = orderedPages rest in if s .kind =? pageOrdered (s .value) .kind then s .value ∷ more else more
 
--- Two devices that, each given its row of events, "give the same answers, register values and ordered pages".
+-- Two devices, each given its row of events: "every answer, register value and ordered page .. is the same at both".
 pub record Same (d : Device) (later : List Event) (d′ : Device) (later′ : List Event) : Type 0 where
   pub answers : compared later (saysTo d later) ≡ compared later′ (saysTo d′ later′)
   pub registers : (register : ℕ)
       → comparedValue later register (readDue register (afterAll d later) .says) ≡ comparedValue later′ register (readDue register (afterAll d′ later′) .says)
   pub pages : orderedPages (saysTo d later) ≡ orderedPages (saysTo d′ later′)
 
--- "No page outlives its link." The two premises are the customer's: each has just gone into Break (`Module`), and 7.514-7.516 are the same.
+-- No page outlives its link. The two premises are the customer's: each has just gone into Break (`Module`), and 7.514-7.516 are the same.
 abbrev pub NoPageOutlivesItsLink : Type 0
 NoPageOutlivesItsLink =
     (first second : Module) (later : List Event) → deviceOf first .lasting .advertised ≡ deviceOf second .lasting .advertised

@@ -1,0 +1,54 @@
+-- 01, "What the promises have to say": "A device or reader record that no call has made is taken too: the call ends safely and gives what the written definition
+-- gives there." Some of them, worked out.
+use Prim.Native.Nat.{ℕ, _^_}
+use mathlib.Core.Path.{_≡_}
+use mathlib.Core.Bool.{true, false}
+use Rattle.answers.specs.declared.Refusal.{Refusal}
+use Rattle.answers.specs.declared.Refusal.the-variants as refusal
+use Rattle.answers.specs.Answers.{Said, nothing, refused, settledOn}
+use Rattle.page_resolve.specs.declared.resolving.Resolution.the-variants.{Refused, Settled}
+use Rattle.line_reader.specs.declared.reader.Reader.{Reader}
+use Rattle.line_reader.specs.declared.reader.Reader.the-variants.{Open, Dropping}
+use Rattle.port_state.specs.declared.Device.{Device}
+use Rattle.port_state.specs.declared.State.the-variants.{Ability, Complete, CheckLink, Up}
+use Rattle.port_state.specs.declared.Outcome.the-variants.{Resolved}
+use Rattle.port_state.specs.Memory.{Due, due, freshDevice}
+use Rattle.port_state.specs.Changes.{withState, withOwn, withHeld, withOut, withCount, markWaiting, withTimer, withOutcome, withReader}
+use Rattle.port_step.specs.declared.events.Event.the-variants.{Edge, Tick, Sent}
+use Rattle.port_step.specs.Steps.{stepDue}
+
+-- A device in Complete with a page out, these two pages and this count.
+abbrev pub completeWith : (own held count : ℕ) → Device
+completeWith own held count = withState Complete (withOut true (withCount count (withHeld held (withOwn own freshDevice))))
+
+-- "at three, resolve own and held page": a page is sent at 1000, with this answer; what is kept of it; Check-link. The page is no longer out, the mark is "waiting",
+-- the count 3, and the inhibit timer starts.
+abbrev pub Resolves : Device → Said → (kept : Device → Device) → Type 0
+Resolves d says kept =
+    stepDue (Sent 1000) d ≡ due says (withState CheckLink (kept (withTimer 1000 (withCount 3 (markWaiting 1000 (withOut false d))))))
+
+abbrev pub RefusedInComplete : Device → Refusal → Type 0
+RefusedInComplete d refusal = Resolves d (refused refusal) (withOutcome (Resolved (Refused refusal)))
+
+-- A device in Up with a page out.
+abbrev pub outInUp : Device
+outInUp = withState Up (withOut true freshDevice)
+
+-- A device in Ability whose reader stands at position 156, where no page has a transition.
+abbrev pub at156 : Device
+at156 = withState Ability (withReader (Open 156 0 0) freshDevice)
+
+pub record NotMade : Type 0 where
+  -- "In Complete a refusal of resolving, 4, 5 or 13 as well .., goes to Check-link without a rate": an own page of 2^48; one with selector 0; two equal nonces.
+  pub wide : RefusedInComplete (completeWith (2 ^ 48) 0xA90001 2) refusal.Wide
+  pub selector : RefusedInComplete (completeWith 0x850000 0xA90001 2) refusal.Selector
+  pub tie : RefusedInComplete (completeWith 0x850001 0xA50001 2) refusal.Tie
+  -- A count of three is at three, and 3 is left.
+  pub count : Resolves (completeWith 0x850001 0xA90001 3) (settledOn 2 false) (withOutcome (Resolved (Settled 2 false)))
+  -- A page out in Up: "Sent ends it and marks waiting" there too, nothing is answered, and Up stays. "edges ignored"; a tick is not named.
+  pub sent-in-up : stepDue (Sent 1000) outInUp ≡ due nothing (markWaiting 1000 (withOut false outInUp))
+  pub edge-in-up : stepDue (Edge 1000) outInUp ≡ due nothing outInUp
+  pub tick-in-up : stepDue (Tick 1000 5) outInUp ≡ due nothing outInUp
+  -- A reader at position 156: no gap is right there, not one position; a quiet one is Cut.
+  pub gap : stepDue (Edge 800) at156 ≡ due (refused refusal.Gap) (withReader (Dropping 800) at156)
+  pub cut : stepDue (Edge 3441) at156 ≡ due (refused refusal.Cut) (withReader (Open 1 3441 0) at156)

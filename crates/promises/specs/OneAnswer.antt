@@ -1,0 +1,57 @@
+-- 01, "What the promises have to say": "That no second answer fits is proved". A contract fixes its result: whatever two results meet it are the same.
+use Prim.Native.Nat.{ℕ}
+use mathlib.Core.Path.{_≡_}
+use mathlib.Core.Bool.{Bool, true}
+use mathlib.Core.List.{List}
+use Rattle.answers.specs.declared.Answer.{Answer}
+use Rattle.answers.specs.Answers.{Said, said, isByte, abilityIsByte}
+use Rattle.page_resolve.specs.declared.resolving.Resolution.{Resolution}
+use Rattle.page_resolve.specs.declared.resolving.Resolution.the-variants as resolution
+use Rattle.page_resolve.specs.Resolving.{saidOf}
+use Rattle.line_reader.specs.declared.endings.Ending.{Ending}
+use Rattle.line_reader.specs.declared.endings.Heard.{Heard}
+use Rattle.line_reader.specs.declared.reader.Step.{Step}
+use Rattle.line_reader.specs.Endings.{saidOfEnding, saidOfHeard}
+use Rattle.line_mode.specs.declared.modes.LineMode.{LineMode}
+use Rattle.line_mode.specs.declared.modes.Found.{Found}
+use Rattle.line_mode.specs.declared.modes.Judgement.{Judgement}
+use Rattle.line_mode.specs.Gaps.{saidOfGap}
+use Rattle.line_captures.specs.declared.captures.ReadOutcome.{ReadOutcome}
+use Rattle.port_state.specs.declared.page_registers.PageRegisters.{PageRegisters}
+use Rattle.port_state.specs.declared.Device.{Device}
+use Rattle.port_state.specs.declared.Reply.{Reply}
+use Rattle.port_state.specs.Memory.{Due, Meets}
+
+-- The one premise: an ability's number is a byte, by its type. `abilityIsByte` asks it of an answer; this asks it of what resolving came to.
+abbrev pub resolvedIsByte : Resolution → Bool
+resolvedIsByte (resolution.Refused refusal) = true
+resolvedIsByte (resolution.Settled ability master) = isByte ability
+
+-- A contract `r ≡ ..`: there is one such result.
+abbrev pub Single : (A : Type 0) → Type 0
+Single A = (first second due : A) → first ≡ due → second ≡ due → first ≡ second
+
+pub record NoSecondAnswer : Type 0 where
+  -- The results of public functions that a contract says outright: a number, yes or no, a lent list afterwards; a mode, and whether a number names one; what a gap
+  -- is; what an edge brings to a reader; what reading a capture brings; what resolving comes to; a page's registers; a device.
+  pub number : Single ℕ
+  pub test : Single Bool
+  pub list : Single (List ℕ)
+  pub mode : Single LineMode
+  pub found : Single Found
+  pub judgement : Single Judgement
+  pub step : Single Step
+  pub outcome : Single ReadOutcome
+  pub resolved : Single Resolution
+  pub registers : Single PageRegisters
+  pub device : Single Device
+  -- A contract `said r ≡ ..`: the answer.
+  pub answer : (first second : Answer) (due : Said) → abilityIsByte first ≡ true → abilityIsByte second ≡ true → said first ≡ due → said second ≡ due → first ≡ second
+  -- A contract `Meets r ..`: the answer and the device.
+  pub reply : (first second : Reply) (due : Due) → abilityIsByte (first .answer) ≡ true → abilityIsByte (second .answer) ≡ true
+      → Meets first due → Meets second due → first ≡ second
+  -- What resolving comes to, how an attempt ends, what an edge brings and what a gap is can be told from what is said of them.
+  pub resolution : (first second : Resolution) → resolvedIsByte first ≡ true → resolvedIsByte second ≡ true → saidOf first ≡ saidOf second → first ≡ second
+  pub ending : (first second : Ending) → saidOfEnding first ≡ saidOfEnding second → first ≡ second
+  pub heard : (first second : Heard) → saidOfHeard first ≡ saidOfHeard second → first ≡ second
+  pub gap : (first second : Judgement) → saidOfGap first ≡ saidOfGap second → first ≡ second
