@@ -27,10 +27,15 @@ const WIRE_DELAY: u64 = 50;
 /// happens to them this far apart: at least, and at most, in nanoseconds.
 pub const APART: (u64, u64) = (140 * MICROSECOND, 200 * MICROSECOND);
 
-/// How long a tick is after the one before, at least and at most.
-const TICKS: (u64, u64) = (10 * MICROSECOND, 20 * MICROSECOND);
-/// The same where the device waits for nothing but the link, so that runs stay short.
-const COARSE_TICKS: (u64, u64) = (200 * MICROSECOND, 400 * MICROSECOND);
+/// How long a tick is after the one before at most, by what the device does: so that each
+/// timer is found run out within its window (`windows`), and runs stay short all the same.
+const ANSWERING_TICKS: u64 = 1600;
+const WAITING_TICKS: u64 = 20 * MICROSECOND;
+const BREAK_TICKS: u64 = 133 * MICROSECOND;
+const LINK_TICKS: u64 = 500 * MICROSECOND;
+
+/// How long it is where both sides have their ticks at the same times.
+const TICKS_IN_STEP: u64 = 10 * MICROSECOND;
 
 #[derive(Clone, Copy)]
 enum Happening {
@@ -51,6 +56,20 @@ pub struct Side {
     clock_at_start: u32,
     /// The last answer that says on what this side has settled, while it holds.
     pub settled: Option<u64>,
+    /// Whether this side has heard a page and has not ordered one since.
+    is_answering: bool,
+}
+
+impl Side {
+    /// How long the next tick is after this one at most.
+    fn longest_to_the_next_tick(&self) -> u64 {
+        match self.history.device.state() {
+            State::Off | State::CheckLink | State::Up => LINK_TICKS,
+            State::Break => BREAK_TICKS,
+            _ if self.is_answering => ANSWERING_TICKS,
+            _ => WAITING_TICKS,
+        }
+    }
 }
 
 pub struct Joined {
@@ -72,6 +91,7 @@ impl Joined {
             times: Vec::new(),
             clock_at_start: random.any_number() as u32,
             settled: None,
+            is_answering: false,
         };
         let sides = [side(), side()];
         let mut joined = Joined {
@@ -177,10 +197,10 @@ impl Joined {
 
     /// The tick, with any draw, and the plan for the one after it.
     fn tick(&mut self, side: usize, now: u32) -> EventCells {
-        let later = match self.sides[side].history.device.state() {
-            _ if self.has_ticks_in_step => TICKS.0,
-            State::Off | State::CheckLink | State::Up => self.between(COARSE_TICKS),
-            _ => self.between(TICKS),
+        let most = self.sides[side].longest_to_the_next_tick();
+        let later = match self.has_ticks_in_step {
+            true => TICKS_IN_STEP,
+            false => self.between((most / 2, most)),
         };
         self.plan(later, side, Happening::Tick);
         event::tick(now, self.random.below(32))
@@ -190,11 +210,16 @@ impl Joined {
         let this = &mut self.sides[side];
         let answer = this.history.give(event);
         this.times.push(self.now);
-        if answer::kind(answer) == answer::SETTLED {
-            this.settled = Some(answer);
+        match answer::kind(answer) {
+            answer::GOOD_PAGE => this.is_answering = true,
+            answer::ORDERED_PAGE => this.is_answering = false,
+            answer::SETTLED => this.settled = Some(answer),
+            _ => {}
         }
-        if !matches!(this.history.device.state(), State::CheckLink | State::Up) {
-            this.settled = None;
+        match this.history.device.state() {
+            State::CheckLink | State::Up => {}
+            State::Break => (this.settled, this.is_answering) = (None, false),
+            _ => this.settled = None,
         }
         if answer::kind(answer) == answer::ORDERED_PAGE {
             self.send(side, answer & ((1 << 48) - 1));

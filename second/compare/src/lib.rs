@@ -2,7 +2,8 @@
 //!
 //! A test makes calls (`call`, `generate`, `captures`, `words`, `runs`, `joined`), sends
 //! them to `drive` in batches (`drive`, `program`, `process`) and holds the output against
-//! what the reference gives (`model`, `agreement`). `listing` does the same for the program
+//! what the reference gives (`model`, `agreement`). `windows` looks at the times of
+//! `joined`. `listing` does the same for the program
 //! of that name.
 
 pub mod agreement;
@@ -22,4 +23,5 @@ pub mod program;
 pub mod random;
 pub mod runs;
 pub mod tally;
+pub mod windows;
 pub mod words;

@@ -2,6 +2,7 @@
 //!
 //! The reference simulates the two modules and the wire. Then the program `drive` gets
 //! the events of each module and must give the same answers; the lines tell its answers.
+//! Each timer must have run out within the window that Clause 98 has for it.
 
 use compare::agreement::all_answers;
 use compare::call::Call;
@@ -9,6 +10,7 @@ use compare::event::{LINK, SENT, WRITE};
 use compare::history::Step;
 use compare::joined::{Joined, Side, LEFT, RIGHT};
 use compare::random::Random;
+use compare::windows::runs_in_windows;
 use reference::answer;
 use reference::device::registers::{
     COMPLETE, CONTROL, ENABLE, LINK_LATCH, PAGE_RECEIVED, REMOTE_FAULT, RESET, STATUS,
@@ -59,6 +61,7 @@ fn log() -> Result<Vec<String>, String> {
     let answers = all_answers(&calls)?;
     for side in [LEFT, RIGHT] {
         compare_answers(&joined.sides[side], &answers[side])
+            .and_then(|()| runs_in_windows(&joined.sides[side]))
             .map_err(|words| format!("{}: {words}", NAMES[side]))?;
     }
     let mut log: Vec<String> = lines(&joined, &answers).iter().map(printed).collect();
@@ -78,7 +81,7 @@ fn printed(line: &Line) -> String {
 /// Two modules settle; then the right one is swapped and they settle again.
 fn simulate() -> Result<Joined, String> {
     let both_up = |joined: &Joined| joined.both_are(State::Up);
-    let mut joined = Joined::new(Random::new(2));
+    let mut joined = Joined::new(Random::new(6));
     joined.enable_both(FIRST_HEADS, FIRST_HEADS);
     settle(&mut joined, both_up)?;
     joined.run_until(TIME_IN_USE, |_| false);

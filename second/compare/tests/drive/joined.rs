@@ -7,6 +7,7 @@ use compare::history::Step;
 use compare::joined::{Joined, Side, LEFT, RIGHT};
 use compare::random::Random;
 use compare::tally::Tally;
+use compare::windows::{runs_in_windows, WINDOWS};
 use compare::words::all_rates;
 use reference::answer::{
     kind, register, settled_ability, settled_as_master, GOOD_PAGE, ORDERED_PAGE, SETTLED,
@@ -134,6 +135,7 @@ fn two_modules_settle_and_settle_again_after_a_swap() {
         met.meet(&format!("{swap:?}"));
         for side in &joined.sides {
             assert!(side.history.steps.len() <= MOST_EVENTS);
+            count_timers(side, &mut met);
             calls.push(Call::run(&side.history.events()));
         }
     }
@@ -149,7 +151,14 @@ fn all_that_must_be_met() -> Vec<String> {
     let mut names: Vec<String> = SWAPS.iter().map(|swap| format!("{swap:?}")).collect();
     names.extend(RATES.iter().map(|rate| format!("rate {}", rate.ability)));
     names.extend(["left is master", "right is master"].map(String::from));
+    names.extend(WINDOWS.map(|window| window.timer.to_string()));
     names
+}
+
+/// Each timer runs out within the window that Clause 98 has for it.
+fn count_timers(side: &Side, met: &mut Tally) {
+    let runs = runs_in_windows(side).unwrap_or_else(|words| panic!("{words}"));
+    runs.iter().for_each(|run| met.meet(run.window.timer));
 }
 
 /// Both sides say that they are up, on the same rate and in opposite roles.

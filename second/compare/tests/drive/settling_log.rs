@@ -33,11 +33,37 @@ fn the_log_is_the_same_each_time_and_tells_two_settlings() {
     assert_eq!(count(&log, "left", "link down"), 1);
     // The swapped module is forced to be slave.
     assert_eq!(count(&log, "  left", "settled on 100BASE-T1 as master"), 1);
-    let times: Vec<f64> = log
-        .lines()
-        .take_while(|line| !line.is_empty())
-        .map(|line| line.split_whitespace().next().expect("a time"))
-        .map(|time| time.parse().expect("a time in microseconds"))
-        .collect();
+    let times: Vec<f64> = told(&log).map(time).collect();
     assert!(times.is_sorted() && times.len() > 40);
+}
+
+/// The lines that tell what a module does.
+fn told(log: &str) -> impl Iterator<Item = &str> {
+    log.lines().take_while(|line| !line.is_empty())
+}
+
+/// When a line happens, in microseconds.
+fn time(line: &str) -> f64 {
+    let first = line.split_whitespace().next().expect("a time");
+    first.parse().expect("a time in microseconds")
+}
+
+/// How long after each page that it hears this module orders one, in microseconds.
+fn times_to_answer(log: &str, module: &str) -> Vec<f64> {
+    let own: Vec<&str> = told(log).filter(|line| line.contains(module)).collect();
+    let is_answered = |two: &&[&str]| two[0].contains("hears page") && two[1].contains("orders");
+    let answered = own.windows(2).filter(is_answered);
+    answered.map(|two| time(two[1]) - time(two[0])).collect()
+}
+
+/// Clause 98 lets silent run 31.4 to 34.6 microseconds, and 01 at least 33.
+#[test]
+fn each_page_in_the_log_is_answered_within_the_window_of_silent() {
+    let log = log();
+    for module in ["  left", "  right"] {
+        let times = times_to_answer(&log, module);
+        assert!(times.len() >= 6, "{times:?}");
+        let is_within = |time: &f64| (33.0..=34.6).contains(time);
+        assert!(times.iter().all(is_within), "{times:?}");
+    }
 }
