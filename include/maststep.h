@@ -1,6 +1,8 @@
 /*
  * Maststep: the pages of a line negotiation, for C and C++ on x86-64 Linux.
- * Link with libmaststep.a; beside it only the C library is needed.
+ *
+ * Link with libmaststep.a. It needs nothing at all beside it, not even the C library: it calls nothing outside
+ * of itself, and has no data of its own that it writes. It has less than 10 KiB of code and constants.
  *
  * Every call answers with one 64-bit number: the top byte is the kind of the answer and the other 56
  * bits are its value. maststep_kind and maststep_value take an answer apart.
@@ -18,7 +20,17 @@
 extern "C" {
 #endif
 
-/* The kinds of answer. 1 to 14 are refusals, and the numbers to 27 are kept for more of them; a refusal's value is 0. */
+/* The version of this header: one more with each change that a program can see, in a name, a call or an answer. */
+#define MASTSTEP_VERSION 1
+
+/*
+ * No call was seen to use more bytes of stack than this, its return address among them. That is measured and not
+ * proved: tests/c makes every call of its test on a stack that it has painted, and looks which bytes still are. As
+ * functions on x86-64 Linux may, the calls use bytes below the stack pointer too (the red zone); these are counted.
+ */
+enum { MASTSTEP_MOST_STACK = 512 };
+
+/* The kinds of answer. 1 to 14 are refusals; a refusal's value is 0. */
 enum {
     MASTSTEP_NOTHING = 0,     /* no answer; the value is 0 */
     MASTSTEP_GAP = 1,         /* an attempt ended: a gap was not what the pattern of a page asks there */
@@ -50,6 +62,70 @@ enum {
     MASTSTEP_LSM = 1  /* low speed: positions 800 ns apart */
 };
 
+/* The events that maststep_run takes. Others are answered with nothing, and change nothing. */
+enum {
+    MASTSTEP_EVENT_EDGE = 0,   /* a transition on the line; the argument is not looked at */
+    MASTSTEP_EVENT_TICK = 1,   /* a look at the clock; the argument is the draw, taken modulo 32 */
+    MASTSTEP_EVENT_SENT = 2,   /* an ordered page has been sent; the argument is not looked at */
+    MASTSTEP_EVENT_REPORT = 3, /* the link: argument 0 is down, anything else is up */
+    MASTSTEP_EVENT_READ = 4,   /* a register is read; the argument is its number */
+    MASTSTEP_EVENT_WRITE = 5   /* a register is written; the argument is its number times 65536, plus the value */
+};
+
+/* The registers, all 16 bits wide (MMD 7 of Clause 45). There are no others. */
+enum {
+    MASTSTEP_CONTROL = 512,
+    MASTSTEP_STATUS = 513,            /* read only */
+    MASTSTEP_ADVERTISED_LOW = 514,    /* D0-D15 of the word that is advertised */
+    MASTSTEP_ADVERTISED_MIDDLE = 515, /* D16-D31 */
+    MASTSTEP_ADVERTISED_HIGH = 516,   /* D32-D47 */
+    MASTSTEP_PARTNER_LOW = 517,       /* D0-D15 of the partner's page, read only */
+    MASTSTEP_PARTNER_MIDDLE = 518,    /* D16-D31, read only */
+    MASTSTEP_PARTNER_HIGH = 519       /* D32-D47, read only */
+};
+
+/* The bits of MASTSTEP_CONTROL. It reads as MASTSTEP_CONTROL_ENABLE alone. */
+enum {
+    MASTSTEP_CONTROL_RESET = 0x8000,  /* written as one: the device is fresh, and the rest of this write unused */
+    MASTSTEP_CONTROL_ENABLE = 0x1000, /* zero: off. One: the negotiation begins if it was off */
+    MASTSTEP_CONTROL_RESTART = 0x0200 /* with MASTSTEP_CONTROL_ENABLE: the negotiation begins anew */
+};
+
+/* The bits of MASTSTEP_STATUS. */
+enum {
+    MASTSTEP_STATUS_PAGE_RECEIVED = 0x40, /* the partner has answered; a read clears this */
+    MASTSTEP_STATUS_COMPLETE = 0x20,      /* the link is up */
+    MASTSTEP_STATUS_REMOTE_FAULT = 0x10,  /* the page that it answered with had remote fault; a read clears this */
+    MASTSTEP_STATUS_ALWAYS_ONE = 0x08,
+    MASTSTEP_STATUS_LINK_LATCH = 0x04     /* the link was up at the last read, and has not gone since */
+};
+
+/* The abilities that are rates, in the order in which they are chosen: the number n of An. */
+enum {
+    MASTSTEP_ABILITY_25GBASE_T1 = 6,
+    MASTSTEP_ABILITY_10GBASE_T1 = 5,
+    MASTSTEP_ABILITY_5GBASE_T1 = 4,
+    MASTSTEP_ABILITY_2_5GBASE_T1 = 3,
+    MASTSTEP_ABILITY_1000BASE_T1 = 2,
+    MASTSTEP_ABILITY_100BASE_T1 = 0,
+    MASTSTEP_ABILITY_10BASE_T1S_FULL = 1, /* full duplex */
+    MASTSTEP_ABILITY_10BASE_T1L = 9,
+    MASTSTEP_ABILITY_10BASE_T1S_HALF = 22 /* half duplex */
+};
+
+/* The fields of a page's word: the number of the lowest bit of each, D0 being bit 0. */
+enum {
+    MASTSTEP_FIELD_SELECTOR = 0,      /* S, five bits */
+    MASTSTEP_FIELD_ECHO = 5,          /* E, five bits: the nonce that was heard */
+    MASTSTEP_FIELD_PAUSE = 10,        /* two bits */
+    MASTSTEP_FIELD_FORCED_ROLE = 12,  /* M/S; where it is 1, T4, the nonce's highest bit, is the role: 1 for master */
+    MASTSTEP_FIELD_REMOTE_FAULT = 13,
+    MASTSTEP_FIELD_ACK = 14,
+    MASTSTEP_FIELD_NEXT_PAGE = 15,    /* NP */
+    MASTSTEP_FIELD_NONCE = 16,        /* T, five bits */
+    MASTSTEP_FIELD_ABILITIES = 21     /* A0-A26 */
+};
+
 /* No page has more readings than this, in either mode. */
 enum { MASTSTEP_MOST_READINGS = 150 };
 
@@ -65,6 +141,30 @@ static inline uint64_t maststep_value(uint64_t answer)
     return answer & UINT64_C(0x00ffffffffffffff);
 }
 
+/* The ability of an answer or value that says what is settled: one of MASTSTEP_ABILITY_... */
+static inline unsigned maststep_ability(uint64_t settled)
+{
+    return (unsigned)(settled & 0xff);
+}
+
+/* The role in an answer or value that says what is settled: 1 where this side is master, 0 where it is slave. */
+static inline int maststep_is_master(uint64_t settled)
+{
+    return (int)(settled >> 8 & 1);
+}
+
+/* The word that has the bit of this ability and no other; 0 for a number past 26, since there is no such ability. */
+static inline uint64_t maststep_ability_bit(unsigned ability)
+{
+    return ability > 26 ? 0 : UINT64_C(1) << (MASTSTEP_FIELD_ABILITIES + ability);
+}
+
+/* The argument of MASTSTEP_EVENT_WRITE that writes this value to the register of this number. */
+static inline uint64_t maststep_write_argument(uint32_t number, uint16_t value)
+{
+    return (uint64_t)number * 65536 + value;
+}
+
 /*
  * Answers MASTSTEP_NUMBER with the 16 check bits of a word of 48 bits, S15 the highest bit of the value.
  * A word of 2^48 or more is refused: MASTSTEP_WIDE (13).
@@ -76,7 +176,8 @@ uint64_t maststep_check(uint64_t word);
  * MASTSTEP_SETTLED. Bits 0-7 of the value are the number n of the ability An: the first of A6 25GBASE-T1,
  * A5 10GBASE-T1, A4 5GBASE-T1, A3 2.5GBASE-T1, A2 1000BASE-T1, A0 100BASE-T1, A1 10BASE-T1S full duplex,
  * A9 10BASE-T1L, A22 10BASE-T1S half duplex, in this order, that both words have. Bit 8 is 1 where this
- * side is master, 0 where it is slave. All other bits of the value are 0.
+ * side is master, 0 where it is slave. All other bits of the value are 0. maststep_ability and
+ * maststep_is_master take the value apart.
  *
  * Refused, in this order:
  *   MASTSTEP_WIDE (13)     either word is 2^48 or more;
@@ -153,17 +254,13 @@ uint64_t maststep_read(const uint32_t *list, size_t length, size_t place, uint32
  * left as they were. Answers MASTSTEP_NUMBER with the number of events. Cells after the last whole event are
  * not looked at.
  *
- *   kind 0  edge            argument not looked at
- *   kind 1  tick            the draw, taken modulo 32
- *   kind 2  page sent       argument not looked at
- *   kind 3  link report     0 is down, anything else is up
- *   kind 4  register read   the register's number
- *   kind 5  register write  the register's number times 65536, plus the value
- *   others  nothing is answered and nothing changes
+ * The kinds and their arguments are those of MASTSTEP_EVENT_EDGE (0) to MASTSTEP_EVENT_WRITE (5); any other
+ * kind is answered with nothing and changes nothing.
  *
- * An event is answered with MASTSTEP_NOTHING (0), a refusal from 1 to 11 or, in the third Sent of Complete,
- * any of the resolve call's; MASTSTEP_PAGE with a good page's word; MASTSTEP_ORDER with the word of the page
- * that is ordered; MASTSTEP_SETTLED; or MASTSTEP_VALUE with a register's value.
+ * An event is answered with MASTSTEP_NOTHING (0), a refusal from 1 to 11, MASTSTEP_PAGE with a good page's word,
+ * MASTSTEP_ORDER with the word of the page that is ordered, MASTSTEP_SETTLED, or MASTSTEP_VALUE with a register's
+ * value. MASTSTEP_EVENT_SENT of the third page in state Complete is answered with MASTSTEP_NONE (8),
+ * MASTSTEP_ROLES (9) or MASTSTEP_SETTLED.
  *
  * Refused: MASTSTEP_ROOM (12) if there are fewer entries than events, and the whole list is then left as it
  * was.

@@ -4,11 +4,17 @@
  * What is expected here is written out from the scope's own tables (positions, windows, times, and P1-P14,
  * which test_table_of_01 runs in their order), with no code in common with the library. A check that holds
  * prints nothing. The last line is 'N passed, M failed', and the exit status is 1 where M is not 0.
+ *
+ * Compiled with ON_PAINTED_STACK, it makes every call on a painted stack, and looks how deep that was too.
  */
+#include <limits.h>
 #include <stdio.h>
 #include <string.h>
 
 #include "maststep.h"
+#ifdef ON_PAINTED_STACK
+#include "painted_stack.h"
+#endif
 
 static unsigned passed, failed;
 
@@ -66,6 +72,75 @@ static void test_header(void)
     same("unfit is 86", MASTSTEP_UNFIT, 0x86);
     same("HSM is mode 0", MASTSTEP_HSM, 0);
     same("LSM is mode 1", MASTSTEP_LSM, 1);
+    same("the version is 1", MASTSTEP_VERSION, 1);
+}
+
+static void test_names_of_events_and_registers(void)
+{
+    same("an edge is event 0", MASTSTEP_EVENT_EDGE, 0);
+    same("a tick is event 1", MASTSTEP_EVENT_TICK, 1);
+    same("page sent is event 2", MASTSTEP_EVENT_SENT, 2);
+    same("a link report is event 3", MASTSTEP_EVENT_REPORT, 3);
+    same("a register read is event 4", MASTSTEP_EVENT_READ, 4);
+    same("a register write is event 5", MASTSTEP_EVENT_WRITE, 5);
+    same("control is 512", MASTSTEP_CONTROL, 512);
+    same("status is 513", MASTSTEP_STATUS, 513);
+    same("D0-D15 advertised are 514", MASTSTEP_ADVERTISED_LOW, 514);
+    same("D16-D31 advertised are 515", MASTSTEP_ADVERTISED_MIDDLE, 515);
+    same("D32-D47 advertised are 516", MASTSTEP_ADVERTISED_HIGH, 516);
+    same("the partner's D0-D15 are 517", MASTSTEP_PARTNER_LOW, 517);
+    same("the partner's D16-D31 are 518", MASTSTEP_PARTNER_MIDDLE, 518);
+    same("the partner's D32-D47 are 519", MASTSTEP_PARTNER_HIGH, 519);
+    same("reset is bit 15 of 512", MASTSTEP_CONTROL_RESET, 1 << 15);
+    same("enable is bit 12 of 512", MASTSTEP_CONTROL_ENABLE, 1 << 12);
+    same("restart is bit 9 of 512", MASTSTEP_CONTROL_RESTART, 1 << 9);
+    same("page received is bit 6 of 513", MASTSTEP_STATUS_PAGE_RECEIVED, 1 << 6);
+    same("complete is bit 5 of 513", MASTSTEP_STATUS_COMPLETE, 1 << 5);
+    same("remote fault is bit 4 of 513", MASTSTEP_STATUS_REMOTE_FAULT, 1 << 4);
+    same("bit 3 of 513 is always one", MASTSTEP_STATUS_ALWAYS_ONE, 1 << 3);
+    same("the link latch is bit 2 of 513", MASTSTEP_STATUS_LINK_LATCH, 1 << 2);
+    same("512 written with 9200 hex", maststep_write_argument(512, 0x9200), UINT64_C(512) * 65536 + 0x9200);
+    same("the largest argument", maststep_write_argument(UINT32_MAX, 0xffff), WIDEST);
+}
+
+static void test_names_of_a_word(void)
+{
+    unsigned n;
+
+    same("25GBASE-T1 is A6", MASTSTEP_ABILITY_25GBASE_T1, 6);
+    same("10GBASE-T1 is A5", MASTSTEP_ABILITY_10GBASE_T1, 5);
+    same("5GBASE-T1 is A4", MASTSTEP_ABILITY_5GBASE_T1, 4);
+    same("2.5GBASE-T1 is A3", MASTSTEP_ABILITY_2_5GBASE_T1, 3);
+    same("1000BASE-T1 is A2", MASTSTEP_ABILITY_1000BASE_T1, 2);
+    same("100BASE-T1 is A0", MASTSTEP_ABILITY_100BASE_T1, 0);
+    same("10BASE-T1S full is A1", MASTSTEP_ABILITY_10BASE_T1S_FULL, 1);
+    same("10BASE-T1L is A9", MASTSTEP_ABILITY_10BASE_T1L, 9);
+    same("10BASE-T1S half is A22", MASTSTEP_ABILITY_10BASE_T1S_HALF, 22);
+    same("the selector begins at D0", MASTSTEP_FIELD_SELECTOR, 0);
+    same("the echo begins at D5", MASTSTEP_FIELD_ECHO, 5);
+    same("pause begins at D10", MASTSTEP_FIELD_PAUSE, 10);
+    same("the forced role is D12", MASTSTEP_FIELD_FORCED_ROLE, 12);
+    same("remote fault is D13", MASTSTEP_FIELD_REMOTE_FAULT, 13);
+    same("Ack is D14", MASTSTEP_FIELD_ACK, 14);
+    same("NP is D15", MASTSTEP_FIELD_NEXT_PAGE, 15);
+    same("the nonce begins at D16", MASTSTEP_FIELD_NONCE, 16);
+    same("the abilities begin at D21", MASTSTEP_FIELD_ABILITIES, 21);
+    for (n = 0; n < 27; n++) same("the bit of an ability", maststep_ability_bit(n), UINT64_C(0x200000) << n);
+    same("there is no A27", maststep_ability_bit(27), 0);
+    same("there is no ability of the largest number", maststep_ability_bit(UINT_MAX), 0);
+}
+
+/* What is settled, taken apart: of the whole answer, and of its value. */
+static void test_settled_taken_apart(void)
+{
+    const uint64_t slave = maststep_resolve(0x850001, 0xA90001), master = maststep_resolve(0xA90001, 0x850001);
+
+    same("P9's ability", maststep_ability(slave), MASTSTEP_ABILITY_1000BASE_T1);
+    same("P9's ability, of the value", maststep_ability(maststep_value(slave)), MASTSTEP_ABILITY_1000BASE_T1);
+    same("P9's role", (uint64_t)maststep_is_master(slave), 0);
+    same("P9 exchanged, the role", (uint64_t)maststep_is_master(master), 1);
+    same("P9 exchanged, the role of the value", (uint64_t)maststep_is_master(maststep_value(master)), 1);
+    same("the largest ability", maststep_ability(UINT64_MAX), 255);
 }
 
 /* ---- check bits */
@@ -964,6 +1039,39 @@ static void test_run_to_link_up(void)
     runs("the run without room", 3 * events, events - 1, packed(12, 0));
 }
 
+/* A device goes on to Complete and sends three pages; its third Sent gets this answer. */
+static void settles(const char *what, uint64_t own, uint64_t partner, uint64_t answer)
+{
+    const uint64_t own_answering = own + 0x4000 + ((partner >> 16 & 31) << 5);
+    const uint64_t partner_answering = partner + 0x4000 + ((own >> 16 & 31) << 5);
+
+    fresh_run(0);
+    writes_register(514, own & 0xffff);
+    writes_register(515, own >> 16);
+    writes_register(512, 0x1000);
+    now += 8000000;
+    event(TICK, own >> 16 & 31, 0);
+    sends(350000, own, 0);
+    now += 40000;
+    hears(partner);
+    sends(33000, own_answering, 0);
+    now += 40000;
+    hears(partner_answering);
+    sends(33000, own_answering, 0);
+    sends(350000, own_answering, 0);
+    sends(350000, own_answering, answer);
+    runs(what, 3 * events, events, packed(0x84, events));
+}
+
+/* The third Sent of Complete answers what resolving gives of the two pages. */
+static void test_run_third_sent(void)
+{
+    settles("P9's device", 0x850001, 0xA90001, settled(2, 0));
+    settles("P10's device", 0x851001, 0xA91001, packed(9, 0));
+    settles("P11's device", 0x951001, 0xA90001, settled(2, 1));
+    settles("P13's device", 0x450001, 0xA90001, packed(8, 0));
+}
+
 /* ---- P1-P14 */
 
 /* A page written into the list from its first entry on: the time from the first reading to the last. */
@@ -1020,11 +1128,24 @@ static void test_table_of_01(void)
     runs("P14", 3, 1, packed(0x84, 1));
 }
 
+/* After all other tests: no call has gone deeper than the header says, and one has gone somewhere. */
+static void test_stack(void)
+{
+#ifdef ON_PAINTED_STACK
+    printf("the deepest call used %u bytes of stack\n", (unsigned)deepest);
+    same("a call deeper than MASTSTEP_MOST_STACK", deepest > MASTSTEP_MOST_STACK, 0);
+    same("a call without a return address on the stack", deepest < 8, 0);
+#endif
+}
+
 int main(void)
 {
     /* Line by line, so that what failed is still shown if a later call crashes. */
     setvbuf(stdout, NULL, _IOLBF, BUFSIZ);
     test_header();
+    test_names_of_events_and_registers();
+    test_names_of_a_word();
+    test_settled_taken_apart();
     test_check();
     test_other_side();
     test_resolve_refusals();
@@ -1046,7 +1167,9 @@ int main(void)
     test_run_without_lists();
     test_run_registers();
     test_run_to_link_up();
+    test_run_third_sent();
     test_table_of_01();
+    test_stack();
     printf("%u passed, %u failed\n", passed, failed);
     return failed > 0;
 }

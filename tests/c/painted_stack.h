@@ -1,0 +1,79 @@
+/*
+ * How deep the stack of each call is. header_test.c includes this where it is compiled with ON_PAINTED_STACK:
+ * from there on every call of the library is made on a stack of its own that has been painted, and the bytes
+ * that have lost their paint tell how deep it went. A byte that a call sets aside and never writes is not seen,
+ * unless one further down is written.
+ */
+#ifndef PAINTED_STACK_H
+#define PAINTED_STACK_H
+
+/* Any function, as C lets one be handed on. */
+typedef void (*function_of_any_kind)(void);
+
+struct painted_call {
+    function_of_any_kind function;
+    unsigned char *top;
+    uint64_t arguments[6];
+};
+
+/* Calls the function with its arguments on the stack that ends at top, and answers what it answers. */
+uint64_t call_on_stack(const struct painted_call *call);
+
+__asm__(".text\n"
+        ".globl call_on_stack\n"
+        "call_on_stack:\n"
+        "    push %rbp\n"
+        "    mov %rsp, %rbp\n"
+        "    mov %rdi, %rax\n"
+        "    mov 8(%rax), %rsp\n"
+        "    mov 16(%rax), %rdi\n"
+        "    mov 24(%rax), %rsi\n"
+        "    mov 32(%rax), %rdx\n"
+        "    mov 40(%rax), %rcx\n"
+        "    mov 48(%rax), %r8\n"
+        "    mov 56(%rax), %r9\n"
+        "    call *(%rax)\n"
+        "    mov %rbp, %rsp\n"
+        "    pop %rbp\n"
+        "    ret\n");
+
+/* Far more than a call may use, so that one which uses too much is told and does no harm. */
+enum { STACK_BYTES = 8 * MASTSTEP_MOST_STACK };
+static _Alignas(16) unsigned char painted_stack[STACK_BYTES];
+
+/* The most bytes that a call of the library has used so far. */
+static size_t deepest;
+
+/* Not the same for all bytes, so that a call does not write them by chance. */
+static unsigned char paint(size_t place)
+{
+    return (unsigned char)(place * 37 + 11);
+}
+
+static uint64_t on_painted_stack(function_of_any_kind function, uint64_t a, uint64_t b, uint64_t c, uint64_t d, uint64_t e, uint64_t f)
+{
+    const struct painted_call call = {function, painted_stack + STACK_BYTES, {a, b, c, d, e, f}};
+    size_t place;
+    uint64_t answer;
+
+    for (place = 0; place < STACK_BYTES; place++) painted_stack[place] = paint(place);
+    answer = call_on_stack(&call);
+    for (place = 0; place < STACK_BYTES && painted_stack[place] == paint(place); place++) continue;
+    if (deepest < STACK_BYTES - place) deepest = STACK_BYTES - place;
+    return answer;
+}
+
+#define ON_STACK(name, a, b, c, d, e, f) on_painted_stack((function_of_any_kind)name, a, b, c, d, e, f)
+#define ADDRESS(pointer) ((uint64_t)(uintptr_t)(pointer))
+
+#define maststep_check(word) ON_STACK(maststep_check, word, 0, 0, 0, 0, 0)
+#define maststep_resolve(own, partner) ON_STACK(maststep_resolve, own, partner, 0, 0, 0, 0)
+#define maststep_judge(mode, gap) ON_STACK(maststep_judge, mode, gap, 0, 0, 0, 0)
+#define maststep_write(list, length, place, mode, word, first) \
+    ON_STACK(maststep_write, ADDRESS(list), length, place, mode, word, first)
+#define maststep_read(list, length, place, mode, next) \
+    ON_STACK(maststep_read, ADDRESS(list), length, place, mode, ADDRESS(next), 0)
+#define maststep_run(events, cells, answers, room) \
+    ON_STACK(maststep_run, ADDRESS(events), cells, ADDRESS(answers), room, 0, 0)
+
+#endif
