@@ -18,7 +18,7 @@ pub fn whole_cells(bytes: &[u8]) -> Vec<u64> {
         .collect()
 }
 
-/// What INTERFACES.md calls "taken modulo 2^32".
+/// What docs/INTERFACES.md calls "taken modulo 2^32".
 pub fn modulo_2_to_32(cell: u64) -> u32 {
     (cell % (1 << 32)) as u32
 }

@@ -23,7 +23,7 @@ const MILLISECOND: u64 = 1_000_000;
 /// How long an edge takes from one end of the wire to the other, in nanoseconds.
 const WIRE_DELAY: u64 = 50;
 
-/// Two devices that step together never meet (OPEN-POINTS 57), so what happens to both
+/// Two devices that step together never meet (point 57), so what happens to both
 /// happens to them this far apart: at least, and at most, in nanoseconds.
 pub const APART: (u64, u64) = (140 * MICROSECOND, 200 * MICROSECOND);
 

@@ -201,7 +201,7 @@ fn count_settlings(lefts_answers: &[u64], met: &mut Tally) {
     }
 }
 
-/// OPEN-POINTS 57: two devices enabled at the same reading, with ticks in step, order at
+/// Point 57: two devices enabled at the same reading, with ticks in step, order at
 /// the same time and never hear one another.
 #[test]
 fn two_devices_in_step_never_meet() {

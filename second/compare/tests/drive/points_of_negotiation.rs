@@ -1,5 +1,5 @@
-//! The special runs of OPEN-POINTS, section B and the points 126 to 128: one test for each
-//! point, the expected answers written out from document 01.
+//! The special runs of points 21 to 56 and 126 to 128 (docs/READINGS.md): one test for each
+//! point that can be seen, the expected answers written out from document 01.
 
 use crate::script::{
     assert_all_hold, hear_and_send, in_ability, in_ack, in_break, in_check_link, in_complete,

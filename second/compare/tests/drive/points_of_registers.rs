@@ -1,5 +1,5 @@
-//! The special runs of OPEN-POINTS, section C: one test for each point, the expected
-//! answers written out from document 01.
+//! The special runs of points 58 to 69 (docs/READINGS.md): one test for each point, the
+//! expected answers written out from document 01.
 
 use crate::script::{
     assert_all_hold, in_ability, in_break, in_check_link, in_complete, in_every_state, in_up,

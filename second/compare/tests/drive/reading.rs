@@ -1,5 +1,5 @@
 //! The edges of the rules of reading, one by one, with the answers written out. The
-//! points are those of OPEN-POINTS.
+//! points are those of docs/READINGS.md.
 
 use compare::agreement::assert_answer_cells;
 use compare::call::Call;
