@@ -77,8 +77,9 @@ def reservations(facts):
 
 def head(facts):
     """The first lines: nobody may take a failure for a pass."""
-    counts = f'{facts.passed()} checks passed, {facts.failed()} failed.'
     faults, warnings = failures(facts), list(reservations(facts))
+    # A page that is no pass although no check failed is itself the one failure of the gate.
+    counts = f'{facts.passed()} checks passed, {facts.failed() or min(1, len(faults))} failed.'
     if faults:
         yield f'{FAILED}\n'
         yield paragraph(f'THIS PAGE CERTIFIES NOTHING AND MUST NOT BE FILED AS A PASS. {counts}')
