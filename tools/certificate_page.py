@@ -56,6 +56,9 @@ def failures(facts):
         found.append(f'{plural(facts.failed(), "check")} failed; part 3 tells in which step.')
     if not facts.passed() or not verdicts(facts.step('rt ci').output):
         found.append('There is no record that anything was proved.')
+    used, logic = whole_sums(facts), kit(facts)[1].split()[-1]
+    if len(used) != 1 or not used[0].startswith(logic):
+        found.append(f'The logic that was used, {", ".join(used) or "not known"}, is not that of the kit, {logic}.')
     if any(facts.begun[key] != facts.ended[key] for key in ('commit', 'changes')):
         found.append('The files were changed while the gate ran, so that it looked at no one state of them.')
     missing = [name for name, value in facts.sums.items() if value is None]
