@@ -35,7 +35,7 @@ use Rattle.port_state.specs.declared.page_registers.Third.{Third}
 use Rattle.port_state.specs.declared.page_registers.Third.the-variants.{Low, Middle, High}
 use Rattle.port_state.specs.PageRegisters.{noPage, thirdOf, withThird, wordOf, registersOf}
 use Rattle.port_state.specs.Memory.{Due, due, isTalking, isOff, isUp, noTalk, freshDevice, intoBreak, intoOff}
-use Rattle.port_state.specs.Changes.{withState, withReader, withOut, withCount}
+use Rattle.port_state.specs.Changes.{withState, withReader, withOut, withLatch}
 use Rattle.port_registers.specs.declared.Bank.{Bank}
 use Rattle.port_registers.specs.declared.Bank.the-variants.{Advertised, Partner}
 use Rattle.port_registers.specs.declared.Register.{Register}
@@ -314,15 +314,14 @@ module _ (sized : Bool) where
     report-brings up d s = report-in up (d .state) d s
 
     -- Reads. The latch is no part of what is sound.
-    relatch : (st : State) (latch : Bool) (t : Talk) → Talks st t
-        → Talks st (record { own = t .own; held = t .held; count = t .count; mark = t .mark; timer = t .timer; out = t .out; heard = t .heard; latch = latch })
-    relatch state.Off latch t h = h
-    relatch state.Break latch t h = h
-    relatch state.Ability latch t h = h
-    relatch state.Ack latch t h = h
-    relatch state.Complete latch t h = h
-    relatch state.CheckLink latch t h = h
-    relatch state.Up latch t h = h
+    relatch : (st : State) (latch : Bool) (d : Device) → Talks st (d .link .talk) → Talks st (withLatch latch d .link .talk)
+    relatch state.Off latch d h = h
+    relatch state.Break latch d h = h
+    relatch state.Ability latch d h = h
+    relatch state.Ack latch d h = h
+    relatch state.Complete latch d h = h
+    relatch state.CheckLink latch d h = h
+    relatch state.Up latch d h = h
 
     bit-small : (n : ℕ) (t : Bool) → bitIf n t ≤ 2 ^ n
     bit-small n true = omega arith
@@ -346,7 +345,7 @@ module _ (sized : Bool) where
     read-at n Status d s =
         answers (registerValue (statusBits (d .lasting .flags .received) (isUp (d .state)) (d .lasting .flags .fault) (d .link .talk .latch))) refl
         (λ _. status-small (d .lasting .flags .received) (isUp (d .state)) (d .lasting .flags .fault) (d .link .talk .latch))
-        (retalk (relatch (d .state) (isUp (d .state)) (d .link .talk) (s .talks)) s)
+        (retalk (relatch (d .state) (isUp (d .state)) d (s .talks)) s)
     read-at n (Part bank third) d s =
         answers (registerValue (thirdOf third (bankOf bank d))) refl (λ h. let l = bank-fits bank d s third h in omega (arith, l)) s
     read-at n Missing d s = answers (refused refusal.Register) refl (λ _. omega arith) s
