@@ -167,7 +167,7 @@ def assumed(facts):
 def skipped(facts):
     yield '5. What was skipped\n'
     if facts.skipped:
-        yield paragraph("What could not be tried here, in the gate's own words. It counts neither as passed nor as failed.\n", '   ') + '\n'
+        yield paragraph("What could not be tried here, in the gate's own words. It counts neither as passed nor as failed.", '   ') + '\n'
     yield from map(item, facts.skipped or ['nothing'])
 
 
