@@ -1,4 +1,4 @@
-"""Reads the public functions out of Rattle code: what tools/no-requires and tools/repository_names.py share.
+"""Reads the public functions out of Rattle code: what tools/no-requires, tools/contract-forms and tools/repository_names.py share.
 
 A function is public if it is `pub` without a restriction: `pub fn`, `pub extern "C" fn`, also in an impl block."""
 import collections
@@ -7,8 +7,9 @@ import re
 PUBLIC = re.compile(r'\bpub\s+(?:const\s+)?(?:extern\s+"[^"]*"\s+)?fn\s+(\w+)')
 CLAUSE = re.compile(r'\b(requires|ensures|ghost|decreases)\b|[{;]')
 
-# owner is the type whose method it is, or ''; clauses are the words of its contract, in order.
-PublicFunction = collections.namedtuple('PublicFunction', 'owner name line clauses')
+# owner is the type whose method it is, or ''; clauses are the words of its contract, in order, and statements what stands between the
+# brackets of each.
+PublicFunction = collections.namedtuple('PublicFunction', 'owner name line clauses statements')
 
 
 def without_comments(source):
@@ -27,14 +28,14 @@ def closing(text, start, brackets='{}'):
 
 
 def clauses(text, place):
-    """The words of the contract of a function whose parameters open from place on."""
+    """The words of the contract of a function whose parameters open from place on, each with its statement."""
     place = closing(text, place, '()')
     while True:
         found = CLAUSE.search(text, place)
         if not found or found[0] in '{;':
             return
-        yield found[0]
         place = closing(text, found.end())
+        yield found[0], text[text.index('{', found.end()) + 1:place - 1].strip()
 
 
 def functions(source):
@@ -44,7 +45,8 @@ def functions(source):
     for found in PUBLIC.finditer(text):
         owners = [name for start, end, name in impls if start < found.start() < end]
         line = text.count('\n', 0, found.start()) + 1
-        yield PublicFunction(owners[0] if owners else '', found[1], line, list(clauses(text, found.end())))
+        contract = list(clauses(text, found.end()))
+        yield PublicFunction(owners[0] if owners else '', found[1], line, [word for word, _ in contract], [statement for _, statement in contract])
 
 
 def exported(sources):

@@ -70,6 +70,7 @@ said Unfit = gapUnfit
 abbrev pub isByte : (ability : ℕ) → Bool
 isByte ability = ability <? 256
 
+-- So it is with an answer that has one.
 abbrev pub abilityIsByte : Answer → Bool
 abilityIsByte Nothing = true
 abilityIsByte (Refused refusal) = true

@@ -26,11 +26,11 @@ afterSilence n heard = replicate n Nothing ++ (heard ∷ [])
 
 -- Where this is what edges bring, it comes at the last of them.
 pub at-last : (m : LineMode) (r : Reader) (edges : List ℕ) (heard : Heard) → heardAlong m r edges ≡ afterSilence (length edges - 1) heard
-    → heardAlong m r edges ≡ onlyLast edges heard
+    → heardAlong m r edges ≡ onlyLast Nothing edges heard
 at-last m r [] heard h = absurd (let z : _≡_ {A = ℕ} 0 1 = cc h in omega arith)
 at-last m r (x ∷ edges) heard h = h ∙ ap (λ (n : ℕ). afterSilence n heard) (let e : suc (length edges) - 1 ≡ length edges = omega arith in e) ∙ same x edges
   where
-    same : (x : ℕ) (edges : List ℕ) → afterSilence (length edges) heard ≡ onlyLast (x ∷ edges) heard
+    same : (x : ℕ) (edges : List ℕ) → afterSilence (length edges) heard ≡ onlyLast Nothing (x ∷ edges) heard
     same x [] = refl
     same x (y ∷ edges) = ap (λ (l : List Heard). Nothing ∷ l) (same y edges)
 

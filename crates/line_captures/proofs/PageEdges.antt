@@ -32,17 +32,17 @@ pub opening-edge : (m : LineMode) → Apart m → (past : List ℕ) (x : ℕ) �
 opening-edge m apart past x h = starting m apart (readerAfter m Fresh past) x (starts-opens m past x ∙ h)
 
 -- Before the last of some edges nothing is heard, if only at the last something is.
-one-more : (z x : ℕ) (later rest : List ℕ) (h : Heard) → onlyLast (z ∷ (later ++ (x ∷ rest))) h ≡ Nothing ∷ onlyLast (later ++ (x ∷ rest)) h
+one-more : (z x : ℕ) (later rest : List ℕ) (h : Heard) → onlyLast Nothing (z ∷ (later ++ (x ∷ rest))) h ≡ Nothing ∷ onlyLast Nothing (later ++ (x ∷ rest)) h
 one-more z x [] rest h = refl
 one-more z x (y ∷ later) rest h = refl
 
 module _ (m : LineMode) (x : ℕ) (h : Heard) where
-  at-end : (r : Reader) (later : List ℕ) → heardAlong m r (later ++ (x ∷ [])) ≡ onlyLast (later ++ (x ∷ [])) h → edgeOf m (readerAfter m r later) x .heard ≡ h
+  at-end : (r : Reader) (later : List ℕ) → heardAlong m r (later ++ (x ∷ [])) ≡ onlyLast Nothing (later ++ (x ∷ [])) h → edgeOf m (readerAfter m r later) x .heard ≡ h
   at-end r [] e = cc e
   at-end r (z ∷ later) e =
       at-end (edgeOf m r z .reader) later (let f = e ∙ one-more z x later [] h in cc f)
 
-  before-end : (y : ℕ) (rest : List ℕ) (r : Reader) (later : List ℕ) → heardAlong m r (later ++ (x ∷ y ∷ rest)) ≡ onlyLast (later ++ (x ∷ y ∷ rest)) h
+  before-end : (y : ℕ) (rest : List ℕ) (r : Reader) (later : List ℕ) → heardAlong m r (later ++ (x ∷ y ∷ rest)) ≡ onlyLast Nothing (later ++ (x ∷ y ∷ rest)) h
       → edgeOf m (readerAfter m r later) x .heard ≡ Nothing
   before-end y rest r [] e = cc e
   before-end y rest r (z ∷ later) e =
@@ -54,7 +54,7 @@ module _ (m : LineMode) (apart : Apart m) (w : ℕ) (word : w < 2 ^ 48) (before 
   under-way =
       after-append m Fresh before (first ∷ later) ∙ ap (λ (s : Step). readerAfter m (s .reader) later) (opening-edge m apart before first opened)
 
-  whole : (rest : List ℕ) → Carries m w (first ∷ (later ++ rest)) → heardAlong m (Open 1 first 0) (later ++ rest) ≡ onlyLast (later ++ rest) (Ended (Good w))
+  whole : (rest : List ℕ) → Carries m w (first ∷ (later ++ rest)) → heardAlong m (Open 1 first 0) (later ++ rest) ≡ onlyLast Nothing (later ++ rest) (Ended (Good w))
   whole rest carried = at-last m (Open 1 first 0) (later ++ rest) (Ended (Good w)) (opened-reads m apart w word first (later ++ rest) carried .told)
 
   pub last-edge : (x : ℕ) → Carries m w (first ∷ (later ++ (x ∷ []))) → edgeOf m (readerAfter m Fresh (before ++ (first ∷ later))) x .heard ≡ Ended (Good w)

@@ -105,7 +105,7 @@ reading-back mode m known apart clock =
     }
   where
     after : (r : Reader) (x w : ℕ) (edges : List ℕ) → edgeOf m r x ≡ step (cond (isOpen r) (Ended Cut) Nothing) (Open 1 x 0) → w < 2 ^ 48 → Carries m w (x ∷ edges)
-        → heardAlong m r (x ∷ edges) ≡ cond (isOpen r) (Ended Cut) Nothing ∷ onlyLast edges (Ended (Good w))
+        → heardAlong m r (x ∷ edges) ≡ cond (isOpen r) (Ended Cut) Nothing ∷ onlyLast Nothing edges (Ended (Good w))
     after r x w edges e word carried =
         ap (λ (b : Step). b .heard ∷ heardAlong m (b .reader) edges) e
         ∙ ap (λ (l : List Heard). cond (isOpen r) (Ended Cut) Nothing ∷ l) (at-last m (Open 1 x 0) edges (Ended (Good w)) (opened-reads m apart w word x edges carried .told))

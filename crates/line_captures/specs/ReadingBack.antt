@@ -39,11 +39,11 @@ gaps between (x ∷ behind) = gapsAfter between x behind
 abbrev pub Carries : LineMode → (word : ℕ) (edges : List ℕ) → Type 0
 Carries m w edges = Forall₂ (λ k gap. within m k gap ≡ true) (gaps _-_ (transitions m w)) (gaps timeBetween edges)
 
--- Nothing at every edge but the last, and there this.
-abbrev pub onlyLast : (edges : List ℕ) → Heard → List Heard
-onlyLast [] heard = []
-onlyLast (x ∷ []) heard = heard ∷ []
-onlyLast (x ∷ y ∷ edges) heard = Nothing ∷ onlyLast (y ∷ edges) heard
+-- The one at every edge but the last, and there the other.
+abbrev pub onlyLast : {A : Type 0} (before : A) (edges : List ℕ) (last : A) → List A
+onlyLast before [] last = []
+onlyLast before (x ∷ []) last = last ∷ []
+onlyLast before (x ∷ y ∷ edges) last = before ∷ onlyLast before (y ∷ edges) last
 
 -- Where an attempt may open: at the first edge of all, and at one that "follows a quiet gap", by the edges before it and its own reading.
 abbrev pub opensAfter : LineMode → (before : List ℕ) (x : ℕ) → Bool
@@ -84,12 +84,12 @@ pub record ReadingBack (mode : ℕ) (m : LineMode) : Type 0 where
   -- A page at nominal spacing lies within the windows, from any first reading on.
   pub nominal : (w first : ℕ) → Carries m w (readings m w first)
   -- Every word's page, each gap in its window, is read by a fresh reader: nothing is heard until its last edge, and there the word.
-  pub fresh : (w : ℕ) (edges : List ℕ) → w < 2 ^ 48 → Carries m w edges → heardAlong m Fresh edges ≡ onlyLast edges (Ended (Good w))
+  pub fresh : (w : ℕ) (edges : List ℕ) → w < 2 ^ 48 → Carries m w edges → heardAlong m Fresh edges ≡ onlyLast Nothing edges (Ended (Good w))
   -- So it is after any other edges, if quiet lies between. "A quiet gap in an attempt ends it (Cut), and that edge opens the next"; with no attempt open,
   -- edges are dropped "until one follows a quiet gap; it opens an attempt".
   pub after-quiet : (past : List ℕ) (last x w : ℕ) (edges : List ℕ) → m .quiet ≤ timeBetween x last → w < 2 ^ 48 → Carries m w (x ∷ edges)
       → let reader = readerAfter m Fresh (past ++ (last ∷ [])) in
-      heardAlong m reader (x ∷ edges) ≡ (if isOpen reader then Ended Cut else Nothing) ∷ onlyLast edges (Ended (Good w))
+      heardAlong m reader (x ∷ edges) ≡ (if isOpen reader then Ended Cut else Nothing) ∷ onlyLast Nothing edges (Ended (Good w))
   -- No edges carry two words.
   pub one-word : (v w : ℕ) (edges : List ℕ) → v < 2 ^ 48 → w < 2 ^ 48 → Carries m v edges → Carries m w edges → v ≡ w
   -- Nothing else is read as a page: where a reader says a word, after whatever edges since it was fresh, the last edges carry it, and the

@@ -90,9 +90,12 @@ hears (Ended Check) reading d = due (saidOfEnding Check) d
 abbrev pub listened : Step → (reading : ℕ) → Device → Due
 listened step reading d = hears (step .heard) reading (withReader (step .reader) d)
 
--- In Off "all but registers is ignored"; in Break "Edges, sent aside (Turn), and reports are ignored"; in Check-link and Up "edges ignored"; and "While a
--- page is out, edges are ignored."
+-- Where an edge is taken, and not ignored: in Off "all but registers is ignored"; in Break "Edges, sent aside (Turn), and reports are ignored"; in Check-link and
+-- Up "edges ignored"; and "While a page is out, edges are ignored."
+abbrev pub takesEdges : Device → Bool
+takesEdges d = isTalking (d .state) && not (d .link .talk .out)
+
 unfoldable pub edgeDue : LineMode → (reading : ℕ) → Device → Due
 edgeDue mode reading d =
-    if isTalking (d .state) && not (d .link .talk .out) then listened (edgeOf mode (d .link .reader) reading) reading d
+    if takesEdges d then listened (edgeOf mode (d .link .reader) reading) reading d
     else due nothing d

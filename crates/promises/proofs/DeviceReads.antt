@@ -1,214 +1,42 @@
--- Demand 2 at a device: its reader is what the edges taken since it was fresh have made of it, so a page is heard just where the edge reader hears one.
-use Prim.Native.Nat.{ℕ, _+_}
-use mathlib.Core.Path.{_≡_, refl, sym, ap, _∙_, subst}
+-- Demand 2 at a device: its reader is what the edges taken have made of a fresh one, so a page is heard just where the edge reader hears one.
+use Prim.Native.Nat.{ℕ, _^_, _<_}
+use mathlib.Core.Path.{_≡_, refl, sym, ap, ap₂, _∙_, subst}
 use mathlib.Core.Bool.{Bool, true, false, cond, not, _&&_, _||_, false≢true}
-use mathlib.Core.List.{List, [], _∷_, _++_, append-nil}
-use native.Mathlib.Omega.{arith}
-use lib.Dec.{eqb, leb}
+use mathlib.Core.List.{List, [], _∷_, _++_, map, append-assoc}
+use lib.Dec.{eqb}
 use borrow.Author.Tests.{eqb-true, eq-eqb}
 use Rattle.answers.specs.Answers.{Said, nothing, refused, pageRead}
 use Rattle.answers.specs.declared.Refusal.the-variants as refusal
 use Rattle.page_word.proofs.ComputedTest.{and-left, and-right}
-use Rattle.page_word.specs.Word.{hasBit, among}
+use Rattle.page_word.specs.Word.{among}
 use Rattle.page_word.specs.Fields.{fieldOf, hasOtherSelector, isTie}
 use Rattle.page_word.specs.declared.fields.Field.the-variants as field
-use Rattle.page_resolve.specs.Rates.{rateOrder}
 use Rattle.line_mode.specs.Modes.{lsmMode}
 use Rattle.line_mode.proofs.Windows.{lsm-apart}
 use Rattle.line_reader.specs.declared.endings.Ending.the-variants.{Good, Gap, Cut, Check}
 use Rattle.line_reader.specs.declared.endings.Heard.{Heard}
 use Rattle.line_reader.specs.declared.endings.Heard.the-variants.{Nothing, Ended}
 use Rattle.line_reader.specs.declared.reader.Reader.{Reader}
-use Rattle.line_reader.specs.declared.reader.Reader.the-variants.{Fresh, Open, Dropping}
+use Rattle.line_reader.specs.declared.reader.Reader.the-variants.{Fresh}
 use Rattle.line_reader.specs.declared.reader.Step.{Step}
 use Rattle.line_reader.specs.Reading.{edgeOf, readerAfter}
 use Rattle.line_captures.specs.Captures.{isOpen}
-use Rattle.line_captures.specs.ReadingBack.{opensAfter}
-use Rattle.line_captures.proofs.SinceOpened.{after-append, starts-opens, heard-since}
+use Rattle.line_captures.specs.ReadingBack.{Carries, onlyLast, opensAfter}
+use Rattle.line_captures.proofs.SinceOpened.{starts-opens, heard-since}
 use Rattle.line_captures.proofs.PageEdges.{opening-edge, last-edge, inner-edge}
 use Rattle.port_state.specs.declared.State.{State}
 use Rattle.port_state.specs.declared.State.the-variants.{Off, Break, Ability, Ack, Complete, CheckLink, Up}
 use Rattle.port_state.specs.declared.Device.{Device}
-use Rattle.port_state.specs.Memory.{Due, due, isTalking, isOff, freshDevice, intoBreak, intoOff}
+use Rattle.port_state.specs.Memory.{Due, due, isTalking, freshDevice}
 use Rattle.port_state.specs.Changes.{withState, withReader}
-use Rattle.port_registers.specs.declared.Bank.the-variants.{Advertised, Partner}
-use Rattle.port_registers.specs.declared.Register.{Register}
-use Rattle.port_registers.specs.declared.Register.the-variants.{Control, Status, Part, Missing}
-use Rattle.port_registers.specs.Registers.{registerOf, readAt, readDue, entersBreakBy, commanded, writeAt, writeDue}
-use Rattle.port_timing.specs.Ticks.{lowSpeed, runOut, inhibitOf, mayOrder, orders, tickIn, tickDue}
-use Rattle.port_timing.specs.Sending.{counted, sentIn, sentDue, hasRate, reportIn, reportDue}
-use Rattle.port_hearing.specs.Edges.{isChanged, echoesOther, pageInAbility, pageInAck, pageIn, hears, edgeDue}
+use Rattle.port_hearing.specs.Edges.{isChanged, echoesOther, pageInAbility, pageInAck, pageIn, hears, takesEdges, edgeDue}
 use Rattle.port_step.specs.declared.events.Event.{Event}
 use Rattle.port_step.specs.declared.events.Event.the-variants.{Edge, Tick, Sent, Report, Read, Write, Unnamed}
-use Rattle.port_step.specs.Steps.{stepOver, stepDue, afterAll}
+use Rattle.port_step.specs.Steps.{stepOver, stepDue, saysTo, afterAll}
 use Rattle.promises.specs.MadeByCalls.{kindsFor}
-use Rattle.promises.specs.AtTheDevice.{takesEdges, takenOf, isFresh, takenNext, takenAlong, after, taken, UnderWay, refusesPage, isOfPage, EndsPage, ReadingAtTheDevice}
+use Rattle.promises.specs.AtTheDevice.{takenNext, takenAlong, after, taken, readerOf, UnderWay, pageSays, refusesPage, isOfPage, GoesOn, EndsPage, cutOrNothing, ReadingAtTheDevice}
 use Rattle.promises.proofs.Sound.{fresh-sound, step-brings, all-sound}
-
--- The reader after an event: fresh, or the one of before after the edges that were taken.
-pub data Follows (edges : List ℕ) (r s : Reader) : Type 0 where
-  anew : isFresh s ≡ true → Follows edges r s
-  on : s ≡ readerAfter lsmMode r edges → Follows edges r s
-
--- So it is with what is due to a device.
-pub record Reads (edges : List ℕ) (d : Device) (x : Due) : Type 0 where
-  pub follows : Follows edges (d .link .reader) (x .device .link .reader)
-
-module _ {edges : List ℕ} {d : Device} where
-  fresh-then : {x : Due} → isFresh (x .device .link .reader) ≡ true → Reads edges d x
-  fresh-then h = record { follows = anew h }
-
-  goes : {x : Due} → x .device .link .reader ≡ readerAfter lsmMode (d .link .reader) edges → Reads edges d x
-  goes e = record { follows = on e }
-
-  either : {x y : Due} (t : Bool) → Reads edges d x → Reads edges d y → Reads edges d (cond t x y)
-  either true a b = a
-  either false a b = b
-
-  either-device : {says : Said} {x y : Device} (t : Bool) → Reads edges d (due says x) → Reads edges d (due says y) → Reads edges d (due says (cond t x y))
-  either-device true a b = a
-  either-device false a b = b
-
--- Edges. The reader has taken the edge; only Tie, Changed and Echo make it fresh.
-module _ (reading : ℕ) (edges : List ℕ) (d : Device) (r : Reader) (same : r ≡ readerAfter lsmMode (d .link .reader) edges) where
-  page-reads : (s : State) (word : ℕ) → Reads edges (withState s d) (pageIn s word reading (withReader r (withState s d)))
-  unfolding pageIn pageInAbility pageInAck
-  page-reads Off word = goes same
-  page-reads Break word = goes same
-  page-reads Ability word = either (hasOtherSelector word) (goes same) (either (isTie (d .link .talk .own) word) (fresh-then refl) (goes same))
-  page-reads Ack word =
-      either (isChanged word (d .link .talk .held)) (fresh-then refl)
-      (either (eqb (fieldOf field.Ack word) 0) (goes same) (either (echoesOther (d .link .talk .own) word) (fresh-then refl) (goes same)))
-  page-reads Complete word = goes same
-  page-reads CheckLink word = goes same
-  page-reads Up word = goes same
-
-  heard-reads : (h : Heard) → Reads edges d (hears h reading (withReader r d))
-  unfolding hears
-  heard-reads Nothing = goes same
-  heard-reads (Ended (Good word)) = page-reads (d .state) word
-  heard-reads (Ended Gap) = goes same
-  heard-reads (Ended Cut) = goes same
-  heard-reads (Ended Check) = goes same
-
-edge-reads : (reading : ℕ) (d : Device) → Reads (takenOf (Edge reading) d) d (edgeDue lsmMode reading d)
-unfolding edgeDue
-edge-reads reading d = by (takesEdges d)
-  where
-    brought : Step
-    brought = edgeOf lsmMode (d .link .reader) reading
-
-    by : (t : Bool) → Reads (cond t (reading ∷ []) []) d (cond t (hears (brought .heard) reading (withReader (brought .reader) d)) (due nothing d))
-    by true = heard-reads reading (reading ∷ []) d (brought .reader) refl (brought .heard)
-    by false = goes refl
-
--- Ticks: leaving Break, and going into it.
-order-reads : (reading word : ℕ) (d : Device) → Reads [] d (orders lowSpeed reading word d)
-unfolding orders
-order-reads reading word d = either (mayOrder lowSpeed reading (d .link)) (goes refl) (goes refl)
-
-tick-in : (s : State) (reading draw : ℕ) (d : Device) → Reads [] (withState s d) (tickIn s lowSpeed reading draw (withState s d))
-tick-in Off reading draw d = goes refl
-tick-in Break reading draw d = either-device (runOut (lowSpeed .breaking) (d .link .talk .timer) reading) (fresh-then refl) (goes refl)
-tick-in Ability reading draw d = order-reads reading _ (withState Ability d)
-tick-in Ack reading draw d = order-reads reading _ (withState Ack d)
-tick-in Complete reading draw d = order-reads reading _ (withState Complete d)
-tick-in CheckLink reading draw d = either-device (runOut (inhibitOf (d .link .outcome)) (d .link .talk .timer) reading) (fresh-then refl) (goes refl)
-tick-in Up reading draw d = goes refl
-
-tick-reads : (reading draw : ℕ) (d : Device) → Reads [] d (tickDue lowSpeed reading draw d)
-unfolding tickDue
-tick-reads reading draw d = tick-in (d .state) reading draw d
-
--- Pages sent: the reader stays.
-sent-in : (s : State) (reading : ℕ) (d : Device) → Reads [] (withState s d) (sentIn s rateOrder reading (withState s d))
-unfolding counted
-sent-in Off reading d = goes refl
-sent-in Break reading d = goes refl
-sent-in Ability reading d = either (d .link .talk .out) (goes refl) (goes refl)
-sent-in Ack reading d = either (d .link .talk .out) (goes refl) (goes refl)
-sent-in Complete reading d = either (d .link .talk .out) (either (leb 3 (d .link .talk .count + 1)) (goes refl) (goes refl)) (goes refl)
-sent-in CheckLink reading d = either (d .link .talk .out) (goes refl) (goes refl)
-sent-in Up reading d = either (d .link .talk .out) (goes refl) (goes refl)
-
-sent-reads : (reading : ℕ) (d : Device) → Reads [] d (sentDue rateOrder reading d)
-unfolding sentDue
-sent-reads reading d = sent-in (d .state) reading d
-
--- Reports: link down.
-report-in : (s : State) (up : Bool) (reading : ℕ) (d : Device) → Reads [] (withState s d) (due nothing (reportIn s up reading (withState s d)))
-report-in Off up reading d = goes refl
-report-in Break up reading d = goes refl
-report-in Ability up reading d = goes refl
-report-in Ack up reading d = goes refl
-report-in Complete up reading d = goes refl
-report-in CheckLink up reading d = either-device up (either-device (hasRate (d .link .outcome)) (goes refl) (goes refl)) (goes refl)
-report-in Up up reading d = either-device up (goes refl) (fresh-then refl)
-
-report-reads : (up : Bool) (reading : ℕ) (d : Device) → Reads [] d (reportDue up reading d)
-unfolding reportDue
-report-reads up reading d = report-in (d .state) up reading d
-
--- Registers: a write to 512.
-read-at : (r : Register) (d : Device) → Reads [] d (readAt r d)
-read-at Control d = goes refl
-read-at Status d = goes refl
-read-at (Part bank third) d = goes refl
-read-at Missing d = goes refl
-
-read-reads : (n : ℕ) (d : Device) → Reads [] d (readDue n d)
-unfolding readDue
-read-reads n d = read-at (registerOf n) d
-
-write-at : (r : Register) (value reading : ℕ) (d : Device) → Reads [] d (writeAt r value reading d)
-unfolding commanded
-write-at Control value reading d =
-    either-device (hasBit value 15) (fresh-then refl)
-    (either-device (hasBit value 12) (either-device (entersBreakBy value (d .state)) (fresh-then refl) (goes refl)) (fresh-then refl))
-write-at Status value reading d = goes refl
-write-at (Part Advertised third) value reading d = goes refl
-write-at (Part Partner third) value reading d = goes refl
-write-at Missing value reading d = goes refl
-
-write-reads : (n value reading : ℕ) (d : Device) → Reads [] d (writeDue n value reading d)
-unfolding writeDue
-write-reads n value reading d = write-at (registerOf n) value reading d
-
-step-reads : (e : Event) (d : Device) → Reads (takenOf e d) d (stepDue e d)
-unfolding stepOver
-step-reads (Edge reading) d = edge-reads reading d
-step-reads (Tick reading draw) d = tick-reads reading draw d
-step-reads (Sent reading) d = sent-reads reading d
-step-reads (Report reading up) d = report-reads up reading d
-step-reads (Read reading register) d = read-reads register d
-step-reads (Write reading register value) d = write-reads register value reading d
-step-reads Unnamed d = goes refl
-
--- So the reader is always what the edges taken since it was fresh make of a fresh one.
-fresh-only : (r : Reader) → isFresh r ≡ true → r ≡ Fresh
-fresh-only Fresh h = refl
-fresh-only (Open at last bits) h = absurd (false≢true h)
-fresh-only (Dropping last) h = absurd (false≢true h)
-
-after-one : (edges more : List ℕ) (r s : Reader) → r ≡ readerAfter lsmMode Fresh edges → Follows more r s
-    → s ≡ readerAfter lsmMode Fresh (cond (isFresh s) [] (edges ++ more))
-after-one edges more r s e (anew h) = rw h (fresh-only s h)
-after-one edges more r s e (on same) = by (isFresh s) refl
-  where
-    by : (t : Bool) → isFresh s ≡ t → s ≡ readerAfter lsmMode Fresh (cond t [] (edges ++ more))
-    by true h = fresh-only s h
-    by false h = same ∙ ap (λ (x : Reader). readerAfter lsmMode x more) e ∙ sym (after-append lsmMode Fresh edges more)
-
-along : (edges : List ℕ) (d : Device) (events : List Event) → d .link .reader ≡ readerAfter lsmMode Fresh edges
-    → afterAll d events .link .reader ≡ readerAfter lsmMode Fresh (takenAlong edges d events)
-unfolding afterAll takenAlong
-along edges d [] e = e
-along edges d (event ∷ later) e =
-    along (takenNext edges event d) (stepDue event d .device) later
-    (after-one edges (takenOf event d) (d .link .reader) (stepDue event d .device .link .reader) e (step-reads event d .follows))
-
-reader-taken : (past : List Event) → after past .link .reader ≡ readerAfter lsmMode Fresh (taken past)
-reader-taken past = along [] freshDevice past refl
+use Rattle.promises.proofs.ReaderFollows.{reader-taken}
 
 -- What is said of an edge that is taken.
 abbrev heardAt : (d : Device) (x : ℕ) → Heard
@@ -232,8 +60,8 @@ of-if false a b = b
 alike : {s : Said} {d e : Device} → Alike (due s d) (due s e)
 alike = record { same = refl }
 
--- What a page answers does not hang on the reader;
-page-says : (s : State) (word x : ℕ) (r : Reader) (d : Device) → Alike (pageIn s word x (withReader r (withState s d))) (pageIn s word x (withState s d))
+-- What a page answers hangs on neither the reader nor the reading;
+page-says : (s : State) (word x : ℕ) (r : Reader) (d : Device) → Alike (pageIn s word x (withReader r (withState s d))) (pageIn s word 0 (withState s d))
 unfolding pageIn pageInAbility pageInAck
 page-says Off word x r d = alike
 page-says Break word x r d = alike
@@ -252,43 +80,55 @@ itself word d = record { it-is = rw (eq-eqb word word refl) }
 refusing : {word : ℕ} {d : Device} (s : Said) → refusesPage s ≡ true → OfPage word (due s d)
 refusing {word} s h = record { it-is = ap (λ (t : Bool). t || (eqb (s .kind) 0x80 && eqb (s .value) word)) h }
 
-of-page : (s : State) (word x : ℕ) (d : Device) → isTalking s ≡ true → OfPage word (pageIn s word x (withState s d))
+of-page : (s : State) (word : ℕ) (d : Device) → isTalking s ≡ true → OfPage word (pageIn s word 0 (withState s d))
 unfolding pageIn pageInAbility pageInAck
-of-page Off word x d h = absurd (false≢true h)
-of-page Break word x d h = absurd (false≢true h)
-of-page Ability word x d h =
+of-page Off word d h = absurd (false≢true h)
+of-page Break word d h = absurd (false≢true h)
+of-page Ability word d h =
     of-if (hasOtherSelector word) (refusing (refused refusal.Selector) refl)
     (of-if (isTie (d .link .talk .own) word) (refusing (refused refusal.Tie) refl) (itself word _))
-of-page Ack word x d h =
+of-page Ack word d h =
     of-if (isChanged word (d .link .talk .held)) (refusing (refused refusal.Changed) refl)
     (of-if (eqb (fieldOf field.Ack word) 0) (itself word _) (of-if (echoesOther (d .link .talk .own) word) (refusing (refused refusal.Echo) refl) (itself word _)))
-of-page Complete word x d h = itself word _
-of-page CheckLink word x d h = absurd (false≢true h)
-of-page Up word x d h = absurd (false≢true h)
+of-page Complete word d h = itself word _
+of-page CheckLink word d h = absurd (false≢true h)
+of-page Up word d h = absurd (false≢true h)
+
+said-of-page : (word : ℕ) (d : Device) → takesEdges d ≡ true → isOfPage word (pageSays word d) ≡ true
+said-of-page word d takes = of-page (d .state) word d (and-left (isTalking (d .state)) (not (d .link .talk .out)) takes) .it-is
 
 module _ (d : Device) (x : ℕ) (takes : takesEdges d ≡ true) where
-  taken-says : stepDue (Edge x) d .says ≡ hears (heardAt d x) x (withReader (edgeOf lsmMode (d .link .reader) x .reader) d) .says
+  abbrev next : Device
+  next = withReader (edgeOf lsmMode (d .link .reader) x .reader) d
+
+  brings : stepDue (Edge x) d ≡ hears (heardAt d x) x next
   unfolding stepOver edgeDue
-  taken-says = rw takes
+  brings = rw takes
 
-  says-heard : (h : Heard) → heardAt d x ≡ h → stepDue (Edge x) d .says ≡ hears h x (withReader (edgeOf lsmMode (d .link .reader) x .reader) d) .says
-  says-heard h e = taken-says ∙ ap (λ (z : Heard). hears z x (withReader (edgeOf lsmMode (d .link .reader) x .reader) d) .says) e
+  brings-heard : (h : Heard) → heardAt d x ≡ h → stepDue (Edge x) d ≡ hears h x next
+  brings-heard h e = brings ∙ ap (λ (z : Heard). hears z x next) e
 
-  says-nothing : heardAt d x ≡ Nothing → stepDue (Edge x) d .says ≡ nothing
+  says-page : (w : ℕ) → heardAt d x ≡ Ended (Good w) → stepDue (Edge x) d .says ≡ pageSays w d
   unfolding hears
-  says-nothing e = says-heard Nothing e
+  says-page w e =
+      ap (λ (z : Due). z .says) (brings-heard (Ended (Good w)) e) ∙ page-says (d .state) w x (edgeOf lsmMode (d .link .reader) x .reader) d .same
 
-  says-cut : (attempt : Bool) → heardAt d x ≡ cond attempt (Ended Cut) Nothing → stepDue (Edge x) d .says ≡ cond attempt (refused refusal.Cut) nothing
-  unfolding hears
-  says-cut true e = says-heard (Ended Cut) e
-  says-cut false e = says-heard Nothing e
+-- What is heard and is no page leaves the device as it is.
+silent-heard : (x : ℕ) (d : Device) → hears Nothing x d ≡ due nothing d
+unfolding hears
+silent-heard x d = refl
 
-  says-page : (w : ℕ) → heardAt d x ≡ Ended (Good w) → stepDue (Edge x) d .says ≡ pageIn (d .state) w x d .says
-  unfolding hears
-  says-page w e = says-heard (Ended (Good w)) e ∙ page-says (d .state) w x (edgeOf lsmMode (d .link .reader) x .reader) d .same
+gap-heard : (x : ℕ) (d : Device) → hears (Ended Gap) x d ≡ due (refused refusal.Gap) d
+unfolding hears
+gap-heard x d = refl
 
-  says-of-page : (w : ℕ) → heardAt d x ≡ Ended (Good w) → isOfPage w (stepDue (Edge x) d .says) ≡ true
-  says-of-page w e = ap (isOfPage w) (says-page w e) ∙ of-page (d .state) w x d (and-left (isTalking (d .state)) (not (d .link .talk .out)) takes) .it-is
+cut-heard : (x : ℕ) (d : Device) → hears (Ended Cut) x d ≡ due (refused refusal.Cut) d
+unfolding hears
+cut-heard x d = refl
+
+check-heard : (x : ℕ) (d : Device) → hears (Ended Check) x d ≡ due (refused refusal.Check) d
+unfolding hears
+check-heard x d = refl
 
 -- The kinds of answer that a page has, and no event but an edge.
 abbrev pageKinds : List ℕ
@@ -324,14 +164,6 @@ pub record HearsPage (d : Device) (x : ℕ) : Type 0 where
   pub word : ℕ
   pub heard : heardAt d x ≡ Ended (Good word)
 
-says-gap : (d : Device) (x : ℕ) → takesEdges d ≡ true → heardAt d x ≡ Ended Gap → stepDue (Edge x) d .says ≡ refused refusal.Gap
-unfolding hears
-says-gap d x takes e = says-heard d x takes (Ended Gap) e
-
-says-check : (d : Device) (x : ℕ) → takesEdges d ≡ true → heardAt d x ≡ Ended Check → stepDue (Edge x) d .says ≡ refused refusal.Check
-unfolding hears
-says-check d x takes e = says-heard d x takes (Ended Check) e
-
 not-taken : (d : Device) (x : ℕ) → takesEdges d ≡ false → stepDue (Edge x) d .says ≡ nothing
 unfolding stepOver edgeDue
 not-taken d x ignored = rw ignored
@@ -339,27 +171,33 @@ not-taken d x ignored = rw ignored
 hears-page : (d : Device) (x : ℕ) → among (stepDue (Edge x) d .says .kind) pageKinds ≡ true → HearsPage d x
 hears-page d x h = by (takesEdges d) refl
   where
+    no-kind : (s : Said) → stepDue (Edge x) d .says ≡ s → among (s .kind) pageKinds ≡ false → HearsPage d x
+    no-kind s e other = absurd (false≢true (sym other ∙ sym (ap (λ (z : Said). among (z .kind) pageKinds) e) ∙ h))
+
     at : (takes : takesEdges d ≡ true) (heard : Heard) → heardAt d x ≡ heard → HearsPage d x
-    at takes Nothing e = absurd (false≢true (sym (ap (λ (s : Said). among (s .kind) pageKinds) (says-nothing d x takes e)) ∙ h))
+    at takes Nothing e = no-kind nothing (ap (λ (z : Due). z .says) (brings-heard d x takes Nothing e ∙ silent-heard x (next d x takes))) refl
     at takes (Ended (Good word)) e = record { is-taken = takes; word = word; heard = e }
-    at takes (Ended Gap) e = absurd (false≢true (sym (ap (λ (s : Said). among (s .kind) pageKinds) (says-gap d x takes e)) ∙ h))
-    at takes (Ended Cut) e = absurd (false≢true (sym (ap (λ (s : Said). among (s .kind) pageKinds) (says-cut d x takes true e)) ∙ h))
-    at takes (Ended Check) e = absurd (false≢true (sym (ap (λ (s : Said). among (s .kind) pageKinds) (says-check d x takes e)) ∙ h))
+    at takes (Ended Gap) e = no-kind (refused refusal.Gap) (ap (λ (z : Due). z .says) (brings-heard d x takes (Ended Gap) e ∙ gap-heard x (next d x takes))) refl
+    at takes (Ended Cut) e = no-kind (refused refusal.Cut) (ap (λ (z : Due). z .says) (brings-heard d x takes (Ended Cut) e ∙ cut-heard x (next d x takes))) refl
+    at takes (Ended Check) e = no-kind (refused refusal.Check) (ap (λ (z : Due). z .says) (brings-heard d x takes (Ended Check) e ∙ check-heard x (next d x takes))) refl
 
     by : (t : Bool) → takesEdges d ≡ t → HearsPage d x
     by true takes = at takes (heardAt d x) refl
-    by false ignored = absurd (false≢true (sym (ap (λ (s : Said). among (s .kind) pageKinds) (not-taken d x ignored)) ∙ h))
+    by false ignored = no-kind nothing (not-taken d x ignored) refl
 
 -- After events from fresh on: the event is the last edge of the page.
+talking : (past : List Event) → takesEdges (after past) ≡ true → isTalking (after past .state) ≡ true
+talking past takes = and-left (isTalking (after past .state)) (not (after past .link .talk .out)) takes
+
 ends-page : (past : List Event) (x : ℕ) (h : HearsPage (after past) x) → EndsPage past (Edge x) (h .word)
 ends-page past x h =
-    let since = heard-since lsmMode (taken past) x (h .word) (ap (λ (r : Reader). edgeOf lsmMode r x .heard) (sym (reader-taken past)) ∙ h .heard) in
+    let since = heard-since lsmMode (taken past) x (h .word) (ap (λ (r : Reader). edgeOf lsmMode r x .heard) (sym (reader-taken past (talking past (h .is-taken)))) ∙ h .heard) in
     record {
       reading = x;
       edge = refl;
-      is-taken = h .is-taken;
       page =
           record {
+            takes = h .is-taken;
             before = since .attempt .before;
             first = since .attempt .first;
             later = since .attempt .since;
@@ -393,7 +231,8 @@ page-only past e w says = by (only-edges past e (ap (λ (s : Said). among (s .ki
         let h = found .2 in
         let edge-says : stepDue (Edge (found .0)) (after past) .says ≡ pageRead w = ap (λ (z : Event). stepDue z (after past) .says) (sym (found .1)) ∙ says in
         let same = eqb-true w (h .word)
-        (sym (ap (isOfPage (h .word)) edge-says) ∙ says-of-page (after past) (found .0) (h .is-taken) (h .word) (h .heard)) in
+        (sym (ap (isOfPage (h .word)) (sym (says-page (after past) (found .0) (h .is-taken) (h .word) (h .heard)) ∙ edge-says))
+        ∙ said-of-page (h .word) (after past) (h .is-taken)) in
         subst (EndsPage past e) (sym same) (subst (λ (z : Event). EndsPage past z (h .word)) (sym (found .1)) (ends-page past (found .0) h))
 
 refusal-only : (past : List Event) (e : Event) → refusesPage (stepDue e (after past) .says) ≡ true → (w : ℕ) × EndsPage past e w
@@ -402,34 +241,135 @@ refusal-only past e says = by (only-edges past e (refused-among (stepDue e (afte
     by : (x : ℕ) × (e ≡ Edge x) × (HearsPage (after past) x) → (w : ℕ) × EndsPage past e w
     by found = (found .2 .word, subst (λ (z : Event). EndsPage past z (found .2 .word)) (sym (found .1)) (ends-page past (found .0) (found .2)))
 
-module _ (past : List Event) (x : ℕ) where
+-- One event more.
+after-more : (d : Device) (past : List Event) (e : Event) → afterAll d (past ++ (e ∷ [])) ≡ stepDue e (afterAll d past) .device
+unfolding afterAll
+after-more d [] e = refl
+after-more d (event ∷ past) e = after-more (stepDue event d .device) past e
+
+taken-more : (edges : List ℕ) (d : Device) (past : List Event) (e : Event)
+    → takenAlong edges d (past ++ (e ∷ [])) ≡ takenNext (takenAlong edges d past) e (afterAll d past)
+unfolding afterAll takenAlong
+taken-more edges d [] e = refl
+taken-more edges d (event ∷ past) e = taken-more (takenNext edges event d) (stepDue event d .device) past e
+
+module _ (past : List Event) (x : ℕ) (takes : takesEdges (after past) ≡ true) where
   -- What the device hears is what a fresh reader hears after the edges taken.
-  heard-taken : (h : Heard) → edgeOf lsmMode (readerAfter lsmMode Fresh (taken past)) x .heard ≡ h → heardAt (after past) x ≡ h
-  heard-taken h e = ap (λ (r : Reader). edgeOf lsmMode r x .heard) (reader-taken past) ∙ e
+  heard-taken : (h : Heard) → edgeOf lsmMode (readerOf past) x .heard ≡ h → heardAt (after past) x ≡ h
+  heard-taken h e = ap (λ (r : Reader). edgeOf lsmMode r x .heard) (reader-taken past (talking past takes)) ∙ e
 
-  heard-under-way : (w : ℕ) (rest : List ℕ) (u : UnderWay lsmMode w (taken past) rest) (h : Heard)
+  -- An edge that ends no page changes the reader and nothing else.
+  only-reader : (h : Heard) (s : Said) → heardAt (after past) x ≡ h → ((d : Device) → hears h x d ≡ due s d) → stepDue (Edge x) (after past) ≡ due s (next (after past) x takes)
+  only-reader h s e keeps = brings-heard (after past) x takes h e ∙ keeps (next (after past) x takes)
+
+  goes-on-with : (s : Said) → stepDue (Edge x) (after past) ≡ due s (next (after past) x takes) → GoesOn past x s
+  goes-on-with s e =
+      record {
+        answer = ap (λ (z : Due). z .says) e;
+        takes = ap takesEdges (after-more freshDevice past (Edge x) ∙ ap (λ (z : Due). z .device) e) ∙ takes;
+        edges =
+            taken-more [] freshDevice past (Edge x)
+            ∙ ap₂ (λ (t : Bool) (l : List ℕ). cond t (taken past ++ l) [])
+            (ap₂ _&&_ (talking past takes) (ap (λ (z : Due). isTalking (z .device .state)) e ∙ talking past takes))
+            (ap (λ (t : Bool). cond t (x ∷ []) []) takes);
+      }
+
+  opens : opensAfter lsmMode (taken past) x ≡ true → GoesOn past x (cutOrNothing past)
+  opens h = by (isOpen (readerOf past)) (heard-taken _ (ap (λ (s : Step). s .heard) (opening-edge lsmMode lsm-apart (taken past) x h)))
+    where
+      by : (attempt : Bool) → heardAt (after past) x ≡ cond attempt (Ended Cut) Nothing → GoesOn past x (cond attempt (refused refusal.Cut) nothing)
+      by true e = goes-on-with (refused refusal.Cut) (only-reader (Ended Cut) (refused refusal.Cut) e (cut-heard x))
+      by false e = goes-on-with nothing (only-reader Nothing nothing e (silent-heard x))
+
+  opened-device : opensAfter lsmMode (taken past) x ≡ true → stepDue (Edge x) (after past) .device ≡ next (after past) x takes
+  opened-device h = by (isOpen (readerOf past)) (heard-taken _ (ap (λ (s : Step). s .heard) (opening-edge lsmMode lsm-apart (taken past) x h)))
+    where
+      by : (attempt : Bool) → heardAt (after past) x ≡ cond attempt (Ended Cut) Nothing → stepDue (Edge x) (after past) .device ≡ next (after past) x takes
+      by true e = ap (λ (z : Due). z .device) (only-reader (Ended Cut) (refused refusal.Cut) e (cut-heard x))
+      by false e = ap (λ (z : Due). z .device) (only-reader Nothing nothing e (silent-heard x))
+
+module _ (past : List Event) (x w : ℕ) where
+  heard-under-way : (rest : List ℕ) (u : UnderWay past w rest) (h : Heard)
       → edgeOf lsmMode (readerAfter lsmMode Fresh (u .before ++ (u .first ∷ u .later))) x .heard ≡ h → heardAt (after past) x ≡ h
-  heard-under-way w rest u h e = heard-taken h (ap (λ (l : List ℕ). edgeOf lsmMode (readerAfter lsmMode Fresh l) x .heard) (u .whole) ∙ e)
+  heard-under-way rest u h e = heard-taken past x (u .takes) h (ap (λ (l : List ℕ). edgeOf lsmMode (readerAfter lsmMode Fresh l) x .heard) (u .whole) ∙ e)
 
-  opens : opensAfter lsmMode (taken past) x ≡ true → heardAt (after past) x ≡ cond (isOpen (after past .link .reader)) (Ended Cut) Nothing
-  opens h =
-      heard-taken _ (ap (λ (s : Step). s .heard) (opening-edge lsmMode lsm-apart (taken past) x h))
-      ∙ ap (λ (r : Reader). cond (isOpen r) (Ended Cut) Nothing) (sym (reader-taken past))
+  ends : UnderWay past w (x ∷ []) → stepDue (Edge x) (after past) .says ≡ pageSays w (after past)
+  ends u =
+      says-page (after past) x (u .takes) w
+      (heard-under-way (x ∷ []) u (Ended (Good w)) (last-edge lsmMode lsm-apart w (u .word) (u .before) (u .first) (u .later) (u .opened) x (u .carried)))
 
-  ends : (w : ℕ) → UnderWay lsmMode w (taken past) (x ∷ []) → heardAt (after past) x ≡ Ended (Good w)
-  ends w u =
-      heard-under-way w (x ∷ []) u (Ended (Good w)) (last-edge lsmMode lsm-apart w (u .word) (u .before) (u .first) (u .later) (u .opened) x (u .carried))
+  inner : (y : ℕ) (rest : List ℕ) (u : UnderWay past w (x ∷ y ∷ rest)) → stepDue (Edge x) (after past) ≡ due nothing (next (after past) x (u .takes))
+  inner y rest u =
+      only-reader past x (u .takes) Nothing nothing
+      (heard-under-way (x ∷ y ∷ rest) u Nothing (inner-edge lsmMode lsm-apart w (u .word) (u .before) (u .first) (u .later) (u .opened) x y rest (u .carried)))
+      (silent-heard x)
 
-  goes-on : (y w : ℕ) (rest : List ℕ) → UnderWay lsmMode w (taken past) (x ∷ y ∷ rest) → heardAt (after past) x ≡ Nothing
-  goes-on y w rest u =
-      heard-under-way w (x ∷ y ∷ rest) u Nothing (inner-edge lsmMode lsm-apart w (u .word) (u .before) (u .first) (u .later) (u .opened) x y rest (u .carried))
+  goes-on : (y : ℕ) (rest : List ℕ) → UnderWay past w (x ∷ y ∷ rest) → GoesOn past x nothing
+  goes-on y rest u = goes-on-with past x (u .takes) nothing (inner y rest u)
+
+-- The rest of a page, edge after edge.
+further : (past : List Event) (x w y : ℕ) (rest : List ℕ) → UnderWay past w (x ∷ y ∷ rest) → UnderWay (past ++ (Edge x ∷ [])) w (y ∷ rest)
+further past x w y rest u =
+    let g = goes-on past x w y rest u in
+    record {
+      takes = g .takes;
+      before = u .before;
+      first = u .first;
+      later = u .later ++ (x ∷ []);
+      whole = g .edges ∙ ap (λ (l : List ℕ). l ++ (x ∷ [])) (u .whole) ∙ append-assoc (u .before) (u .first ∷ u .later) (x ∷ []);
+      opened = u .opened;
+      word = u .word;
+      carried = subst (λ (l : List ℕ). Carries lsmMode w (u .first ∷ l)) (sym (append-assoc (u .later) (x ∷ []) (y ∷ rest))) (u .carried);
+    }
+
+in-a-row : (past : List Event) (w : ℕ) (rest : List ℕ) → UnderWay past w rest
+    → saysTo (after past) (map Edge rest) ≡ onlyLast nothing rest (pageSays w (after past))
+unfolding saysTo
+in-a-row past w [] u = refl
+in-a-row past w (x ∷ []) u = ap (λ (s : Said). s ∷ []) (ends past x w u)
+in-a-row past w (x ∷ y ∷ rest) u =
+    let e = inner past x w y rest u in
+    let d = next (after past) x (u .takes) in
+    let there : after (past ++ (Edge x ∷ [])) ≡ d = after-more freshDevice past (Edge x) ∙ ap (λ (z : Due). z .device) e in
+    ap (λ (z : Due). z .says ∷ saysTo (z .device) (map Edge (y ∷ rest))) e
+    ∙ ap (λ (l : List Said). nothing ∷ l)
+    (ap (λ (z : Device). saysTo z (map Edge (y ∷ rest))) (sym there) ∙ in-a-row (past ++ (Edge x ∷ [])) w (y ∷ rest) (further past x w y rest u)
+    ∙ ap (onlyLast nothing (y ∷ rest))
+    (ap (pageSays w) there ∙ page-says (after past .state) w 0 (edgeOf lsmMode (after past .link .reader) x .reader) (after past) .same))
+
+whole-page : (past : List Event) (x w : ℕ) (edges : List ℕ) → takesEdges (after past) ≡ true → opensAfter lsmMode (taken past) x ≡ true → w < 2 ^ 48
+    → Carries lsmMode w (x ∷ edges) → saysTo (after past) (map Edge (x ∷ edges)) ≡ cutOrNothing past ∷ onlyLast nothing edges (pageSays w (after past))
+unfolding saysTo
+whole-page past x w edges takes h word carried =
+    let g = opens past x takes h in
+    let d = next (after past) x takes in
+    let there : stepDue (Edge x) (after past) .device ≡ d = opened-device past x takes h in
+    ap₂ (λ (s : Said) (l : List Said). s ∷ l) (g .answer)
+    (ap (λ (z : Device). saysTo z (map Edge edges)) (sym (after-more freshDevice past (Edge x)))
+    ∙ in-a-row (past ++ (Edge x ∷ [])) w edges
+    (record {
+      takes = g .takes;
+      before = taken past;
+      first = x;
+      later = [];
+      whole = g .edges;
+      opened = h;
+      word = word;
+      carried = carried;
+    })
+    ∙ ap (onlyLast nothing edges)
+    (ap (pageSays w) (after-more freshDevice past (Edge x) ∙ there)
+    ∙ page-says (after past .state) w 0 (edgeOf lsmMode (after past .link .reader) x .reader) (after past) .same))
 
 pub at-the-device : ReadingAtTheDevice
 at-the-device =
     record {
-      first = λ past x takes h. says-cut (after past) x takes (isOpen (after past .link .reader)) (opens past x h);
-      inside = λ past x y w rest takes u. says-nothing (after past) x takes (goes-on past x y w rest u);
-      last = λ past x w takes u. (says-page (after past) x takes w (ends past x w u), says-of-page (after past) x takes w (ends past x w u));
+      reader = reader-taken;
+      page = whole-page;
+      page-or-refusal = said-of-page;
+      first = opens;
+      inside = λ past x y w rest u. goes-on past x w y rest u;
+      last = ends;
       only-page = page-only;
       only-refusal = refusal-only;
     }

@@ -14,6 +14,7 @@ pub mod PagesApart
 pub mod EndsAgree
 pub mod SoundWords
 pub mod Sound
+pub mod ReaderFollows
 pub mod MadeFacts
 pub mod DeviceReads
 pub mod Single

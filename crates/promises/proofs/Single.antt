@@ -87,7 +87,7 @@ no-second-answer =
       found = both;
       judgement = both;
       step = both;
-      outcome = both;
+      read = both;
       resolved = both;
       registers = both;
       device = both;
@@ -95,8 +95,8 @@ no-second-answer =
       reply = λ first second due a b m n.
           ap₂ (λ (says : Answer) (device : Device). record { answer = says; device = device })
           (one-answer (first .answer) (second .answer) a b (m .answer ∙ sym (n .answer))) (m .device ∙ sym (n .device));
-      resolution = resolutions;
-      ending = told-by saidOfEnding endingAt ending-again;
-      heard = told-by saidOfHeard (λ s. cond (eqb (s .kind) 0) Nothing (Ended (endingAt s))) heard-again;
-      gap = told-by saidOfGap (λ s. cond (eqb (s .kind) 0x84) (Positions (s .value)) (cond (eqb (s .kind) 0x85) Quiet Unfit)) gap-again;
+      told-outcome = resolutions;
+      told-ending = told-by saidOfEnding endingAt ending-again;
+      told-heard = told-by saidOfHeard (λ s. cond (eqb (s .kind) 0) Nothing (Ended (endingAt s))) heard-again;
+      told-gap = told-by saidOfGap (λ s. cond (eqb (s .kind) 0x84) (Positions (s .value)) (cond (eqb (s .kind) 0x85) Quiet Unfit)) gap-again;
     }

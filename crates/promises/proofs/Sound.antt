@@ -48,7 +48,7 @@ use Rattle.port_hearing.specs.Edges.{isChanged, echoesOther, pageInAbility, pag
 use Rattle.port_step.specs.declared.events.Event.{Event}
 use Rattle.port_step.specs.declared.events.Event.the-variants.{Edge, Tick, Sent, Report, Read, Write, Unnamed}
 use Rattle.port_step.specs.Steps.{stepOver, stepDue, afterAll}
-use Rattle.promises.specs.MadeByCalls.{fits, allFit, kindsFor}
+use Rattle.promises.specs.MadeByCalls.{valueFits, allFit, isResolved, kindsFor}
 use Rattle.promises.proofs.SoundWords.{HeardWord, heard-word, own-selector, own-word, echoing-word, three-word}
 
 or-true : (t : Bool) → (t || true) ≡ true
@@ -86,7 +86,7 @@ module _ (sized : Bool) where
   Comes state.Ability o = o ≡ NoneYet
   Comes state.Ack o = o ≡ NoneYet
   Comes state.Complete o = o ≡ NoneYet
-  Comes state.CheckLink o = Unit {0}
+  Comes state.CheckLink o = isResolved o ≡ true
   Comes state.Up o = hasRate o ≡ true
 
   -- Three registers of 16 bits.
@@ -285,7 +285,7 @@ module _ (sized : Bool) where
         sent-out (withState state.Complete d)
         (either (leb 3 (d .link .talk .count + 1))
         (λ _. resolved-brings reading (d .link .talk .own) (d .link .talk .held) (s .talks .0)
-        (record { advertised-fits = s .advertised-fits; partner-fits = s .partner-fits; talks = refl; comes = tt }))
+        (record { advertised-fits = s .advertised-fits; partner-fits = s .partner-fits; talks = refl; comes = refl }))
         (λ few. silent (retalk (s .talks .0, let l = leb-false 3 (d .link .talk .count + 1) few in omega (arith, l)) s))) s
     sent-in state.CheckLink d s = sent-out (withState state.CheckLink d) (silent (retalk refl s)) s
     sent-in state.Up d s = sent-out (withState state.Up d) (silent (retalk refl s)) s
@@ -391,7 +391,7 @@ module _ (sized : Bool) where
     write-brings n value small d s = write-at n (registerOf n) value small d s
 
   -- Every event.
-  pub step-brings : (e : Event) → (sized ≡ true → fits e ≡ true) → (d : Device) → Sound d → Brings (kindsFor e) (stepDue e d)
+  pub step-brings : (e : Event) → (sized ≡ true → valueFits e ≡ true) → (d : Device) → Sound d → Brings (kindsFor e) (stepDue e d)
   unfolding stepOver
   step-brings (Edge reading) fit d s = edge-brings (lowSpeed .mode) reading d s
   step-brings (Tick reading draw) fit d s = tick-brings lowSpeed reading draw d s
@@ -405,5 +405,5 @@ module _ (sized : Bool) where
   unfolding afterAll allFit
   all-sound [] fit d s = s
   all-sound (e ∷ later) fit d s =
-      all-sound later (λ h. and-right (fits e) (allFit later) (fit h)) (stepDue e d .device)
-      (step-brings e (λ h. and-left (fits e) (allFit later) (fit h)) d s .sound)
+      all-sound later (λ h. and-right (valueFits e) (allFit later) (fit h)) (stepDue e d .device)
+      (step-brings e (λ h. and-left (valueFits e) (allFit later) (fit h)) d s .sound)

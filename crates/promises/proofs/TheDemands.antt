@@ -17,8 +17,8 @@ pub demands : Demands
 demands =
     record {
       no-second-answer = no-second-answer;
-      not-made = not-made;
       made-by-calls = made-by-calls;
+      not-made = not-made;
       high-speed = high-speed-back;
       low-speed = low-speed-back;
       at-the-device = at-the-device;

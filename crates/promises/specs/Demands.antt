@@ -20,17 +20,17 @@ use Rattle.promises.specs.BothEnds.{BothEnds}
 pub record Demands : Type 0 where
   -- Demand 1, beyond the contracts. 01, "What the promises have to say": "That no second answer fits is proved".
   pub no-second-answer : NoSecondAnswer
-  -- "A device or reader record that no call has made is taken too": some worked out,
-  pub not-made : NotMade
-  -- and what is so of all that calls have made.
+  -- What is so of every device that calls have made,
   pub made-by-calls : MadeByCalls
+  -- and some others, worked out: "A device or reader record that no call has made is taken too".
+  pub not-made : NotMade
   -- Demand 2: "Pages become line transitions, and transitions pages, exactly by Clause 98 as condensed in 01: transitions after quiet or a fresh start, each gap in
   -- its window, read back as the page sent, and no others read as a page. Check bits, registers, each step of negotiation, rate and role follow 01." What each call
   -- answers is fixed by its contract, which cites the definitions that write 01 out; that pages are read back, and nothing else, is said here: of
   -- the edge reader and of captures at both speeds ("Mode 0 is HSM", "Mode 1 is LSM"),
   pub high-speed : ReadingBack 0 hsmMode
   pub low-speed : ReadingBack 1 lsmMode
-  -- and of a device.
+  -- and of a device, over the edges that it takes.
   pub at-the-device : ReadingAtTheDevice
   -- "good if the check bits agree": no small damage makes another page of a page.
   pub small-damage : SmallDamage

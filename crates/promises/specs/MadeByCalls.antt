@@ -1,4 +1,5 @@
--- What is so of every device that calls have made, from fresh on and by any events; records that no call has made are in `NotMade`.
+-- What is so of every device that calls have made: the fresh one (`Device::fresh`), and what any events (`step`, `run`) have made of it. (The functions that change one
+-- part of a device are public too, for other crates, and can make any record; some that no events make are in `NotMade`.)
 use Prim.Native.Nat.{ℕ, _^_, _<_, _≤_}
 use mathlib.Core.Path.{_≡_}
 use mathlib.Core.Bool.{Bool, true, false, _&&_}
@@ -6,10 +7,14 @@ use mathlib.Core.List.{List, [], _∷_}
 use Rattle.answers.specs.Choices.{_<?_}
 use Rattle.page_word.specs.Word.{isWide, among}
 use Rattle.page_word.specs.Fields.{hasOtherSelector, isTie}
+use Rattle.line_mode.specs.Modes.{lsmMode}
+use Rattle.line_page.specs.Pattern.{standsAt, has}
+use Rattle.line_reader.specs.declared.reader.Reader.{Reader}
+use Rattle.line_reader.specs.declared.reader.Reader.the-variants.{Fresh, Open, Dropping}
 use Rattle.port_state.specs.declared.State.{State}
 use Rattle.port_state.specs.declared.State.the-variants.{Complete, Up}
-use Rattle.port_state.specs.declared.Talk.{Talk}
-use Rattle.port_state.specs.declared.Outcome.the-variants.{NoneYet}
+use Rattle.port_state.specs.declared.Outcome.{Outcome}
+use Rattle.port_state.specs.declared.Outcome.the-variants.{NoneYet, Resolved}
 use Rattle.port_state.specs.declared.Device.{Device}
 use Rattle.port_state.specs.Memory.{byState, isTalking}
 use Rattle.port_timing.specs.Sending.{hasRate}
@@ -19,40 +24,55 @@ use Rattle.port_step.specs.Steps.{stepDue}
 use Rattle.port_step.specs.Runs.{eventsOf}
 use Rattle.promises.specs.AtTheDevice.{after}
 
--- 01, "Registers": "All are 16 bits wide". The value of a write has 16 bits, by its type in the code (`u16`).
-abbrev pub fits : Event → Bool
-fits (Edge reading) = true
-fits (Tick reading draw) = true
-fits (Sent reading) = true
-fits (Report reading up) = true
-fits (Read reading register) = true
-fits (Write reading register value) = value <? 2 ^ 16
-fits Unnamed = true
+-- 01, "Registers (MMD 7)": "All are 16 bits wide". The value of a write has 16 bits, by its type in the code (`u16`).
+abbrev pub valueFits : Event → Bool
+valueFits (Edge reading) = true
+valueFits (Tick reading draw) = true
+valueFits (Sent reading) = true
+valueFits (Report reading up) = true
+valueFits (Read reading register) = true
+valueFits (Write reading register value) = value <? 2 ^ 16
+valueFits Unnamed = true
 
 unfoldable pub allFit : List Event → Bool
 allFit [] = true
-allFit (e ∷ later) = fits e && allFit later
+allFit (e ∷ later) = valueFits e && allFit later
 
--- What is said and heard in Complete: two words, the selector of each 1, their nonces different; at most two pages have been counted.
-pub record InComplete (t : Talk) : Type 0 where
-  pub own-is-word : isWide (t .own) ≡ false
-  pub own-selector : hasOtherSelector (t .own) ≡ false
-  pub held-is-word : isWide (t .held) ≡ false
-  pub held-selector : hasOtherSelector (t .held) ≡ false
-  pub no-tie : isTie (t .own) (t .held) ≡ false
-  pub count : t .count ≤ 2
+-- The states in which there is a held page, and those in which there is an outcome.
+abbrev pub hasHeld : State → Bool
+hasHeld state = byState state false false false true true false false
 
--- The states that have an outcome: Check-link and Up.
 abbrev pub hasOutcome : State → Bool
 hasOutcome state = byState state false false false false false true true
 
+abbrev pub isResolved : Outcome → Bool
+isResolved NoneYet = false
+isResolved (Resolved resolution) = true
+
+-- A reader with an open attempt stands where a page has a transition, one with one bits.
+abbrev pub standsRight : Reader → Bool
+standsRight Fresh = true
+standsRight (Open at last bits) = has (standsAt lsmMode at) true
+standsRight (Dropping last) = true
+
+-- A word with selector 1.
+pub record IsPage (word : ℕ) : Type 0 where
+  pub is-word : isWide word ≡ false
+  pub selector : hasOtherSelector word ≡ false
+
 pub record Made (d : Device) : Type 0 where
-  pub complete : d .state ≡ Complete → InComplete (d .link .talk)
+  -- In Ability, Ack and Complete the own page is a word with selector 1; in Ack and Complete the held page too, with another nonce.
+  pub own : isTalking (d .state) ≡ true → IsPage (d .link .talk .own)
+  pub held : hasHeld (d .state) ≡ true → IsPage (d .link .talk .held)
+  pub no-tie : hasHeld (d .state) ≡ true → isTie (d .link .talk .own) (d .link .talk .held) ≡ false
+  -- In Complete at most two pages have been counted.
+  pub count : d .state ≡ Complete → d .link .talk .count ≤ 2
   -- Outside Ability, Ack and Complete no page is out.
   pub none-out : isTalking (d .state) ≡ false → d .link .talk .out ≡ false
-  -- Outside Check-link and Up there is no outcome, so none that is settled; in Up there is a rate.
-  pub no-outcome : hasOutcome (d .state) ≡ false → d .link .outcome ≡ NoneYet
+  -- There is an outcome just in Check-link and Up, so a settled one only there; in Up it is settled.
+  pub outcome : isResolved (d .link .outcome) ≡ hasOutcome (d .state)
   pub up : d .state ≡ Up → hasRate (d .link .outcome) ≡ true
+  pub reader : standsRight (d .link .reader) ≡ true
 
 -- The kinds of answer that each event may have: nothing, refusals by their numbers in 01's table, and of the others 0x80 a page, 0x81 a page ordered, 0x82
 -- settled, 0x83 a register's value.
@@ -67,11 +87,11 @@ kindsFor Unnamed = 0 ∷ []
 
 pub record MadeByCalls : Type 0 where
   pub made : (events : List Event) → allFit events ≡ true → Made (after events)
-  -- "4, 5 or 13" are answered to a page sent only on a record that no call has made: the third one in Complete answers 8, 9 or settled,
+  -- "4, 5 or 13 as well (these only on a record that no call has made)": the third page sent in Complete answers None, Roles or settled,
   pub third-sent : (events : List Event) (reading : ℕ) → allFit events ≡ true → after events .state ≡ Complete → after events .link .talk .out ≡ true
       → after events .link .talk .count ≡ 2 → among (stepDue (Sent reading) (after events) .says .kind) (8 ∷ 9 ∷ 0x82 ∷ []) ≡ true
   -- and each event has an answer of one of its kinds, with a value below 2^48: as one number of 64 bits it loses nothing.
-  pub kinds : (events : List Event) (e : Event) → allFit events ≡ true → fits e ≡ true → among (stepDue e (after events) .says .kind) (kindsFor e) ≡ true
-  pub values : (events : List Event) (e : Event) → allFit events ≡ true → fits e ≡ true → stepDue e (after events) .says .value < 2 ^ 48
+  pub kinds : (events : List Event) (e : Event) → allFit events ≡ true → among (stepDue e (after events) .says .kind) (kindsFor e) ≡ true
+  pub values : (events : List Event) (e : Event) → allFit events ≡ true → stepDue e (after events) .says .value < 2 ^ 48
   -- The events of a run, whatever the cells, are such.
   pub run : (cells : List ℕ) → allFit (eventsOf cells) ≡ true

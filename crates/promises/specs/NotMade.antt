@@ -5,50 +5,70 @@ use mathlib.Core.Path.{_≡_}
 use mathlib.Core.Bool.{true, false}
 use Rattle.answers.specs.declared.Refusal.{Refusal}
 use Rattle.answers.specs.declared.Refusal.the-variants as refusal
-use Rattle.answers.specs.Answers.{Said, nothing, refused, settledOn}
+use Rattle.answers.specs.Answers.{nothing, refused, settledOn}
+use Rattle.page_resolve.specs.declared.resolving.Resolution.{Resolution}
 use Rattle.page_resolve.specs.declared.resolving.Resolution.the-variants.{Refused, Settled}
-use Rattle.line_reader.specs.declared.reader.Reader.{Reader}
+use Rattle.page_resolve.specs.Resolving.{saidOf}
 use Rattle.line_reader.specs.declared.reader.Reader.the-variants.{Open, Dropping}
 use Rattle.port_state.specs.declared.Device.{Device}
 use Rattle.port_state.specs.declared.State.the-variants.{Ability, Complete, CheckLink, Up}
 use Rattle.port_state.specs.declared.Outcome.the-variants.{Resolved}
-use Rattle.port_state.specs.Memory.{Due, due, freshDevice}
+use Rattle.port_state.specs.Memory.{due, freshDevice}
 use Rattle.port_state.specs.Changes.{withState, withOwn, withHeld, withOut, withCount, markWaiting, withTimer, withOutcome, withReader}
 use Rattle.port_step.specs.declared.events.Event.the-variants.{Edge, Tick, Sent}
 use Rattle.port_step.specs.Steps.{stepDue}
+use Rattle.promises.specs.MadeByCalls.{Made}
 
--- A device in Complete with a page out, these two pages and this count.
+-- A device in Complete with a page out, these two pages and this count:
 abbrev pub completeWith : (own held count : ℕ) → Device
 completeWith own held count = withState Complete (withOut true (withCount count (withHeld held (withOwn own freshDevice))))
 
--- "at three, resolve own and held page": a page is sent at 1000, with this answer; what is kept of it; Check-link. The page is no longer out, the mark is "waiting",
--- the count 3, and the inhibit timer starts.
-abbrev pub Resolves : Device → Said → (kept : Device → Device) → Type 0
-Resolves d says kept =
-    stepDue (Sent 1000) d ≡ due says (withState CheckLink (kept (withTimer 1000 (withCount 3 (markWaiting 1000 (withOut false d))))))
+-- an own page of 2^48; one with selector 0; two equal nonces, both 5; a count of three.
+abbrev pub wideOwn : Device
+wideOwn = completeWith (2 ^ 48) 0xA90001 2
 
-abbrev pub RefusedInComplete : Device → Refusal → Type 0
-RefusedInComplete d refusal = Resolves d (refused refusal) (withOutcome (Resolved (Refused refusal)))
+abbrev pub selectorZero : Device
+selectorZero = completeWith 0x850000 0xA90001 2
+
+abbrev pub equalNonces : Device
+equalNonces = completeWith 0x850001 0xA50001 2
+
+abbrev pub countOfThree : Device
+countOfThree = completeWith 0x850001 0xA90001 3
 
 -- A device in Up with a page out.
 abbrev pub outInUp : Device
-outInUp = withState Up (withOut true freshDevice)
+outInUp = withState Up (withOutcome (Resolved (Settled 2 false)) (withOut true freshDevice))
 
 -- A device in Ability whose reader stands at position 156, where no page has a transition.
 abbrev pub at156 : Device
-at156 = withState Ability (withReader (Open 156 0 0) freshDevice)
+at156 = withState Ability (withReader (Open 156 0 0) (withOwn 0x850001 freshDevice))
+
+-- "at three, resolve own and held page, answer and keep the outcome, go to Check-link, starting the inhibit timer", when a page is sent at 1000. The page is no
+-- longer out, the mark is "waiting", and the count is 3.
+abbrev pub Resolves : Device → Resolution → Type 0
+Resolves d resolution =
+    stepDue (Sent 1000) d
+    ≡ due (saidOf resolution) (withState CheckLink (withOutcome (Resolved resolution) (withTimer 1000 (withCount 3 (markWaiting 1000 (withOut false d))))))
 
 pub record NotMade : Type 0 where
-  -- "In Complete a refusal of resolving, 4, 5 or 13 as well .., goes to Check-link without a rate": an own page of 2^48; one with selector 0; two equal nonces.
-  pub wide : RefusedInComplete (completeWith (2 ^ 48) 0xA90001 2) refusal.Wide
-  pub selector : RefusedInComplete (completeWith 0x850000 0xA90001 2) refusal.Selector
-  pub tie : RefusedInComplete (completeWith 0x850001 0xA50001 2) refusal.Tie
-  -- A count of three is at three, and 3 is left.
-  pub count : Resolves (completeWith 0x850001 0xA90001 3) (settledOn 2 false) (withOutcome (Resolved (Settled 2 false)))
+  -- No call has made one of them: they are not as `Made` has it.
+  pub no-wide-own : Made wideOwn → ⊥
+  pub no-selector-zero : Made selectorZero → ⊥
+  pub no-equal-nonces : Made equalNonces → ⊥
+  pub no-count-of-three : Made countOfThree → ⊥
+  pub no-page-out-in-up : Made outInUp → ⊥
+  pub no-reader-at-156 : Made at156 → ⊥
+  -- "In Complete a refusal of resolving, 4, 5 or 13 as well (these only on a record that no call has made), goes to Check-link without a rate."
+  pub wide : Resolves wideOwn (Refused refusal.Wide)
+  pub selector : Resolves selectorZero (Refused refusal.Selector)
+  pub tie : Resolves equalNonces (Refused refusal.Tie)
+  -- "Each page sent adds one; at three, resolve": a count of three before it becomes four, which is taken as at three, and 3 is left.
+  pub count : Resolves countOfThree (Settled 2 false)
   -- A page out in Up: "Sent ends it and marks waiting" there too, nothing is answered, and Up stays. "edges ignored"; a tick is not named.
   pub sent-in-up : stepDue (Sent 1000) outInUp ≡ due nothing (markWaiting 1000 (withOut false outInUp))
   pub edge-in-up : stepDue (Edge 1000) outInUp ≡ due nothing outInUp
   pub tick-in-up : stepDue (Tick 1000 5) outInUp ≡ due nothing outInUp
-  -- A reader at position 156: no gap is right there, not one position; a quiet one is Cut.
+  -- A reader at position 156: no gap is right there, not even one position, which would lead to 157; a quiet one is Cut.
   pub gap : stepDue (Edge 800) at156 ≡ due (refused refusal.Gap) (withReader (Dropping 800) at156)
   pub cut : stepDue (Edge 3441) at156 ≡ due (refused refusal.Cut) (withReader (Open 1 3441 0) at156)

@@ -27,13 +27,15 @@ abbrev pub resolvedIsByte : Resolution → Bool
 resolvedIsByte (resolution.Refused refusal) = true
 resolvedIsByte (resolution.Settled ability master) = isByte ability
 
--- A contract `r ≡ ..`: there is one such result.
+-- A contract `r ≡ ..` has at most one result. This is true of every type, since both are the same as what the definition has.
 abbrev pub Single : (A : Type 0) → Type 0
 Single A = (first second due : A) → first ≡ due → second ≡ due → first ≡ second
 
+-- The contracts of public functions have three forms, `r ≡ ..`, `said r ≡ ..` and `Meets r ..`, and for lent memory `now (list .exit) ≡ ..`; `tools/contract-forms` looks
+-- that there is no other.
 pub record NoSecondAnswer : Type 0 where
-  -- The results of public functions that a contract says outright: a number, yes or no, a lent list afterwards; a mode, and whether a number names one; what a gap
-  -- is; what an edge brings to a reader; what reading a capture brings; what resolving comes to; a page's registers; a device.
+  -- What a contract says outright: a number, yes or no, a lent list afterwards; a mode, and whether a number names one; what a gap is; what an edge brings to a
+  -- reader; what reading a capture brings; what resolving comes to; a page's registers; a device.
   pub number : Single ℕ
   pub test : Single Bool
   pub list : Single (List ℕ)
@@ -41,17 +43,17 @@ pub record NoSecondAnswer : Type 0 where
   pub found : Single Found
   pub judgement : Single Judgement
   pub step : Single Step
-  pub outcome : Single ReadOutcome
+  pub read : Single ReadOutcome
   pub resolved : Single Resolution
   pub registers : Single PageRegisters
   pub device : Single Device
-  -- A contract `said r ≡ ..`: the answer.
+  -- An answer of which a contract says what it says.
   pub answer : (first second : Answer) (due : Said) → abilityIsByte first ≡ true → abilityIsByte second ≡ true → said first ≡ due → said second ≡ due → first ≡ second
-  -- A contract `Meets r ..`: the answer and the device.
+  -- A reply that meets what is due: its answer and its device.
   pub reply : (first second : Reply) (due : Due) → abilityIsByte (first .answer) ≡ true → abilityIsByte (second .answer) ≡ true
       → Meets first due → Meets second due → first ≡ second
-  -- What resolving comes to, how an attempt ends, what an edge brings and what a gap is can be told from what is said of them.
-  pub resolution : (first second : Resolution) → resolvedIsByte first ≡ true → resolvedIsByte second ≡ true → saidOf first ≡ saidOf second → first ≡ second
-  pub ending : (first second : Ending) → saidOfEnding first ≡ saidOfEnding second → first ≡ second
-  pub heard : (first second : Heard) → saidOfHeard first ≡ saidOfHeard second → first ≡ second
-  pub gap : (first second : Judgement) → saidOfGap first ≡ saidOfGap second → first ≡ second
+  -- An outcome of resolving, the ending of an attempt, what an edge brings and what a gap is are told, each, by what is said of it.
+  pub told-outcome : (first second : Resolution) → resolvedIsByte first ≡ true → resolvedIsByte second ≡ true → saidOf first ≡ saidOf second → first ≡ second
+  pub told-ending : (first second : Ending) → saidOfEnding first ≡ saidOfEnding second → first ≡ second
+  pub told-heard : (first second : Heard) → saidOfHeard first ≡ saidOfHeard second → first ≡ second
+  pub told-gap : (first second : Judgement) → saidOfGap first ≡ saidOfGap second → first ≡ second
