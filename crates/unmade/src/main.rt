@@ -1,0 +1,87 @@
+// Records that no call has made, each given an event: a line tells the record, the event, what is answered and what is left. What each must
+// bring is proved in NotMade, among the promises, of the definitions; here the compiled step takes the same records, and rt holds the lines
+// to the file stdout.
+mod lines;
+
+use line_reader::Reader;
+use lines::say;
+use lines::tell;
+use port_state::Device;
+use port_state::State;
+use port_state::with_count;
+use port_state::with_held;
+use port_state::with_out;
+use port_state::with_own;
+use port_state::with_reader;
+use port_state::with_state;
+use port_step::Event;
+
+// A device in Complete with a page out, these two pages and this count: the page is sent.
+fn sent_in_complete(own: u64, held: u64, count: u32) {
+    let paged = with_held(with_own(Device::fresh(), own), held);
+    let out = with_out(with_count(paged, count), true);
+    tell(
+        with_state(out, State::Complete),
+        Event::Sent { reading: 1000 },
+    );
+}
+
+// A device in Up with a page out takes an event.
+fn in_up(event: Event) {
+    tell(
+        with_state(with_out(Device::fresh(), true), State::Up),
+        event,
+    );
+}
+
+// A device in Ability whose reader stands at position 156, where no page has a transition, takes an edge.
+fn edge_at_156(reading: u32) {
+    let reader = Reader::Open {
+        at: 156,
+        last: 0,
+        bits: 0,
+    };
+    let device = with_reader(Device::fresh(), reader);
+    tell(
+        with_state(device, State::Ability),
+        Event::Edge { reading: reading },
+    );
+}
+
+// Pages that no device holds in Complete: wider than 48 bits, with selector 0, with equal nonces. Then a count that none has there before a page is sent.
+fn tell_complete() {
+    say(b"complete, own page 2^48, count 2; sent at 1000: ");
+    sent_in_complete(page_word::WIDE, 0xA90001, 2);
+    say(b"complete, own selector 0, count 2; sent at 1000: ");
+    sent_in_complete(0x850000, 0xA90001, 2);
+    say(b"complete, equal nonces, count 2; sent at 1000: ");
+    sent_in_complete(0x850001, 0xA50001, 2);
+    say(b"complete, count 3; sent at 1000: ");
+    sent_in_complete(0x850001, 0xA90001, 3);
+}
+
+fn tell_up() {
+    say(b"up, page out; sent at 1000: ");
+    in_up(Event::Sent { reading: 1000 });
+    say(b"up, page out; edge at 1000: ");
+    in_up(Event::Edge { reading: 1000 });
+    say(b"up, page out; tick at 1000: ");
+    in_up(Event::Tick {
+        reading: 1000,
+        draw: 5,
+    });
+}
+
+// One position of the low-speed mode later, and after quiet.
+fn tell_reader() {
+    say(b"ability, reader open at 156 since 0; edge at 800: ");
+    edge_at_156(800);
+    say(b"ability, reader open at 156 since 0; edge at 3441: ");
+    edge_at_156(3441);
+}
+
+fn main() {
+    tell_complete();
+    tell_up();
+    tell_reader();
+}
