@@ -1,6 +1,6 @@
 // Records that no call has made, each given an event: a line tells the record, the event, what is answered and what is left. What each must
-// bring is proved in NotMade, among the promises, of the definitions; here the compiled step takes the same records, and rt holds the lines
-// to the file stdout.
+// bring is proved of the definitions in NotMade, among the promises; here the compiled step takes the same records, and rt holds the lines to
+// the file stdout.
 mod lines;
 
 use line_reader::Reader;
@@ -72,10 +72,12 @@ fn tell_up() {
     });
 }
 
-// One position of the low-speed mode later, and after quiet.
+// One position of the low-speed mode later, two positions later, and after quiet. Two would end a page at 155, and so tell 156 from it.
 fn tell_reader() {
     say(b"ability, reader open at 156 since 0; edge at 800: ");
     edge_at_156(800);
+    say(b"ability, reader open at 156 since 0; edge at 1600: ");
+    edge_at_156(1600);
     say(b"ability, reader open at 156 since 0; edge at 3441: ");
     edge_at_156(3441);
 }
