@@ -57,5 +57,6 @@ not-made =
       edge-in-up = refl;
       tick-in-up = refl;
       gap = refl;
+      gap-of-two = refl;
       cut = refl;
     }

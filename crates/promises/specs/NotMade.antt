@@ -69,6 +69,7 @@ pub record NotMade : Type 0 where
   pub sent-in-up : stepDue (Sent 1000) outInUp ≡ due nothing (markWaiting 1000 (withOut false outInUp))
   pub edge-in-up : stepDue (Edge 1000) outInUp ≡ due nothing outInUp
   pub tick-in-up : stepDue (Tick 1000 5) outInUp ≡ due nothing outInUp
-  -- A reader at position 156: no gap is right there, not even one position, which would lead to 157; a quiet one is Cut.
+  -- A reader at position 156: no gap is right there, not one position, which would lead to 157, and not two, as from 155; a quiet one is Cut.
   pub gap : stepDue (Edge 800) at156 ≡ due (refused refusal.Gap) (withReader (Dropping 800) at156)
+  pub gap-of-two : stepDue (Edge 1600) at156 ≡ due (refused refusal.Gap) (withReader (Dropping 1600) at156)
   pub cut : stepDue (Edge 3441) at156 ≡ due (refused refusal.Cut) (withReader (Open 1 3441 0) at156)

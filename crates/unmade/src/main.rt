@@ -6,11 +6,14 @@ mod lines;
 use line_reader::Reader;
 use lines::say;
 use lines::tell;
+use page_resolve::Resolution;
 use port_state::Device;
+use port_state::Outcome;
 use port_state::State;
 use port_state::with_count;
 use port_state::with_held;
 use port_state::with_out;
+use port_state::with_outcome;
 use port_state::with_own;
 use port_state::with_reader;
 use port_state::with_state;
@@ -26,12 +29,14 @@ fn sent_in_complete(own: u64, held: u64, count: u32) {
     );
 }
 
-// A device in Up with a page out takes an event.
+// A device in Up, settled on 1000BASE-T1 as slave, with a page out takes an event.
 fn in_up(event: Event) {
-    tell(
-        with_state(with_out(Device::fresh(), true), State::Up),
-        event,
-    );
+    let settled = Outcome::Resolved(Resolution::Settled {
+        ability: 2,
+        master: false,
+    });
+    let out = with_out(with_outcome(Device::fresh(), settled), true);
+    tell(with_state(out, State::Up), event);
 }
 
 // A device in Ability whose reader stands at position 156, where no page has a transition, takes an edge.
@@ -41,7 +46,7 @@ fn edge_at_156(reading: u32) {
         last: 0,
         bits: 0,
     };
-    let device = with_reader(Device::fresh(), reader);
+    let device = with_reader(with_own(Device::fresh(), 0x850001), reader);
     tell(
         with_state(device, State::Ability),
         Event::Edge { reading: reading },
