@@ -39,7 +39,7 @@ gaps between (x ∷ behind) = gapsAfter between x behind
 abbrev pub Carries : LineMode → (word : ℕ) (edges : List ℕ) → Type 0
 Carries m w edges = Forall₂ (λ k gap. within m k gap ≡ true) (gaps _-_ (transitions m w)) (gaps timeBetween edges)
 
--- The one at every edge but the last, and there the other.
+-- The first of two at every edge but the last, and there the second.
 abbrev pub onlyLast : {A : Type 0} (before : A) (edges : List ℕ) (last : A) → List A
 onlyLast before [] last = []
 onlyLast before (x ∷ []) last = last ∷ []

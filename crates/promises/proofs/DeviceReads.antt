@@ -2,7 +2,7 @@
 use Prim.Native.Nat.{ℕ, _^_, _<_}
 use mathlib.Core.Path.{_≡_, refl, sym, ap, ap₂, _∙_, subst}
 use mathlib.Core.Bool.{Bool, true, false, cond, not, _&&_, _||_, false≢true}
-use mathlib.Core.List.{List, [], _∷_, _++_, map, append-assoc}
+use mathlib.Core.List.{List, [], _∷_, _++_, map, append-assoc, append-nil}
 use lib.Dec.{eqb}
 use borrow.Author.Tests.{eqb-true, eq-eqb}
 use Rattle.answers.specs.Answers.{Said, nothing, refused, pageRead}
@@ -34,9 +34,10 @@ use Rattle.port_step.specs.declared.events.Event.{Event}
 use Rattle.port_step.specs.declared.events.Event.the-variants.{Edge, Tick, Sent, Report, Read, Write, Unnamed}
 use Rattle.port_step.specs.Steps.{stepOver, stepDue, saysTo, afterAll}
 use Rattle.promises.specs.MadeByCalls.{kindsFor}
-use Rattle.promises.specs.AtTheDevice.{takenNext, takenAlong, after, taken, readerOf, UnderWay, pageSays, refusesPage, isOfPage, GoesOn, EndsPage, cutOrNothing, ReadingAtTheDevice}
+use Rattle.promises.specs.AtTheDevice.{takenNext, takenAlong, after, taken, readerOf, UnderWay, pageSays, refusesPage, isOfPage, GoesOn, EndsPage, comesBetween, cutOrNothing, ReadingAtTheDevice}
 use Rattle.promises.proofs.Sound.{fresh-sound, step-brings, all-sound}
-use Rattle.promises.proofs.ReaderFollows.{reader-taken}
+use Rattle.promises.proofs.ReaderFollows.{and-false, reader-taken}
+use Rattle.promises.proofs.StateStays.{step-stays, no-edge}
 
 -- What is said of an edge that is taken.
 abbrev heardAt : (d : Device) (x : ℕ) → Heard
@@ -164,9 +165,15 @@ pub record HearsPage (d : Device) (x : ℕ) : Type 0 where
   pub word : ℕ
   pub heard : heardAt d x ≡ Ended (Good word)
 
-not-taken : (d : Device) (x : ℕ) → takesEdges d ≡ false → stepDue (Edge x) d .says ≡ nothing
+not-taken : (d : Device) (x : ℕ) → takesEdges d ≡ false → stepDue (Edge x) d ≡ due nothing d
 unfolding stepOver edgeDue
 not-taken d x ignored = rw ignored
+
+out-ignored : (d : Device) (x : ℕ) → d .link .talk .out ≡ true → stepDue (Edge x) d ≡ due nothing d
+out-ignored d x out = not-taken d x (ap (λ (t : Bool). isTalking (d .state) && not t) out ∙ and-false (isTalking (d .state)))
+
+elsewhere-ignored : (d : Device) (x : ℕ) → isTalking (d .state) ≡ false → stepDue (Edge x) d ≡ due nothing d
+elsewhere-ignored d x silent = not-taken d x (ap (λ (t : Bool). t && not (d .link .talk .out)) silent)
 
 hears-page : (d : Device) (x : ℕ) → among (stepDue (Edge x) d .says .kind) pageKinds ≡ true → HearsPage d x
 hears-page d x h = by (takesEdges d) refl
@@ -183,7 +190,7 @@ hears-page d x h = by (takesEdges d) refl
 
     by : (t : Bool) → takesEdges d ≡ t → HearsPage d x
     by true takes = at takes (heardAt d x) refl
-    by false ignored = no-kind nothing (not-taken d x ignored) refl
+    by false ignored = no-kind nothing (ap (λ (z : Due). z .says) (not-taken d x ignored)) refl
 
 -- After events from fresh on: the event is the last edge of the page.
 talking : (past : List Event) → takesEdges (after past) ≡ true → isTalking (after past .state) ≡ true
@@ -307,6 +314,17 @@ module _ (past : List Event) (x w : ℕ) where
   goes-on : (y : ℕ) (rest : List ℕ) → UnderWay past w (x ∷ y ∷ rest) → GoesOn past x nothing
   goes-on y rest u = goes-on-with past x (u .takes) nothing (inner y rest u)
 
+-- Events between the edges of a page.
+between : (past : List Event) (e : Event) → isTalking (after past .state) ≡ true → comesBetween e ≡ true
+    → (after (past ++ (e ∷ [])) .state ≡ after past .state) × (taken (past ++ (e ∷ [])) ≡ taken past)
+between past e talks passing =
+    let kept = step-stays e (after past) talks passing in (
+      ap (λ (d : Device). d .state) (after-more freshDevice past e) ∙ kept,
+      taken-more [] freshDevice past e
+          ∙ ap₂ (λ (t : Bool) (l : List ℕ). cond t (taken past ++ l) []) (ap₂ _&&_ talks (ap isTalking kept ∙ talks)) (no-edge e (after past) passing)
+          ∙ append-nil (taken past),
+    )
+
 -- The rest of a page, edge after edge.
 further : (past : List Event) (x w y : ℕ) (rest : List ℕ) → UnderWay past w (x ∷ y ∷ rest) → UnderWay (past ++ (Edge x ∷ [])) w (y ∷ rest)
 further past x w y rest u =
@@ -364,9 +382,12 @@ whole-page past x w edges takes h word carried =
 pub at-the-device : ReadingAtTheDevice
 at-the-device =
     record {
+      out-ignored = out-ignored;
+      elsewhere-ignored = elsewhere-ignored;
       reader = reader-taken;
       page = whole-page;
       page-or-refusal = said-of-page;
+      between = between;
       first = opens;
       inside = λ past x y w rest u. goes-on past x w y rest u;
       last = ends;

@@ -15,6 +15,7 @@ pub mod EndsAgree
 pub mod SoundWords
 pub mod Sound
 pub mod ReaderFollows
+pub mod StateStays
 pub mod MadeFacts
 pub mod DeviceReads
 pub mod Single

@@ -28,7 +28,7 @@ use Rattle.port_step.specs.declared.events.Event.the-variants.{Edge, Tick, Sent
 use Rattle.port_step.specs.Steps.{stepOver, stepDue}
 use Rattle.port_step.specs.Runs.{eventOf, eventsOf}
 use Rattle.promises.specs.AtTheDevice.{after}
-use Rattle.promises.specs.MadeByCalls.{valueFits, allFit, hasHeld, hasOutcome, isResolved, standsRight, Made, kindsFor, MadeByCalls}
+use Rattle.promises.specs.MadeByCalls.{valueFits, allFit, isAckOrComplete, hasOutcome, isResolved, standsRight, Made, kindsFor, MadeByCalls}
 use Rattle.promises.proofs.Sound.{Own, Pair, Talks, Comes, Sound, narrow, fresh-sound, step-brings, all-sound}
 use Rattle.promises.proofs.ReaderFollows.{all-stand}
 
@@ -47,7 +47,7 @@ module _ (t : Talk) where
   own CheckLink talks h = absurd (false≢true h)
   own Up talks h = absurd (false≢true h)
 
-  pair : (s : State) → Talks true s t → hasHeld s ≡ true → Pair true (t .own) (t .held)
+  pair : (s : State) → Talks true s t → isAckOrComplete s ≡ true → Pair true (t .own) (t .held)
   pair Off talks h = absurd (false≢true h)
   pair Break talks h = absurd (false≢true h)
   pair Ability talks h = absurd (false≢true h)
@@ -111,7 +111,7 @@ third-sent : (reading : ℕ) (d : Device) → Made d → d .state ≡ Complete �
     → among (stepDue (Sent reading) d .says .kind) (8 ∷ 9 ∷ 0x82 ∷ []) ≡ true
 third-sent reading d m state out counted =
     let talks : isTalking (d .state) ≡ true = ap isTalking state in
-    let holds : hasHeld (d .state) ≡ true = ap hasHeld state in
+    let holds : isAckOrComplete (d .state) ≡ true = ap isAckOrComplete state in
     let r = resolves (d .link .talk .own) (d .link .talk .held) (m .own talks .selector) (m .held holds .selector) (m .no-tie holds) in
     let narrow-both : (isWide (d .link .talk .own) || isWide (d .link .talk .held)) ≡ false = ap₂ _||_ (m .own talks .is-word) (m .held holds .is-word) in
     rw (third reading d state out counted, r .2, narrow-both) (r .1 .kind)

@@ -73,7 +73,7 @@ module _ {edges : List ℕ} {d : Device} where
   either-device true a b = a
   either-device false a b = b
 
-and-false : (t : Bool) → (t && false) ≡ false
+pub and-false : (t : Bool) → (t && false) ≡ false
 and-false true = refl
 and-false false = refl
 

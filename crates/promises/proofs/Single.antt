@@ -16,6 +16,7 @@ use Rattle.line_reader.specs.declared.endings.Ending.{Ending}
 use Rattle.line_reader.specs.declared.endings.Ending.the-variants as ending
 use Rattle.line_reader.specs.declared.endings.Heard.{Heard}
 use Rattle.line_reader.specs.declared.endings.Heard.the-variants.{Nothing, Ended}
+use Rattle.line_reader.specs.declared.reader.Reader.{Reader}
 use Rattle.line_reader.specs.Endings.{saidOfEnding, saidOfHeard}
 use Rattle.line_mode.specs.declared.modes.Judgement.{Judgement}
 use Rattle.line_mode.specs.declared.modes.Judgement.the-variants.{Positions, Quiet, Unfit}
@@ -95,8 +96,11 @@ no-second-answer =
       reply = λ first second due a b m n.
           ap₂ (λ (says : Answer) (device : Device). record { answer = says; device = device })
           (one-answer (first .answer) (second .answer) a b (m .answer ∙ sym (n .answer))) (m .device ∙ sym (n .device));
-      told-outcome = resolutions;
+      told-resolution = resolutions;
       told-ending = told-by saidOfEnding endingAt ending-again;
       told-heard = told-by saidOfHeard (λ s. cond (eqb (s .kind) 0) Nothing (Ended (endingAt s))) heard-again;
       told-gap = told-by saidOfGap (λ s. cond (eqb (s .kind) 0x84) (Positions (s .value)) (cond (eqb (s .kind) 0x85) Quiet Unfit)) gap-again;
+      told-step = λ first second e f.
+          ap₂ (λ (heard : Heard) (reader : Reader). record { heard = heard; reader = reader })
+          (told-by saidOfHeard (λ s. cond (eqb (s .kind) 0) Nothing (Ended (endingAt s))) heard-again (first .heard) (second .heard) e) f;
     }

@@ -59,4 +59,5 @@ not-made =
       gap = refl;
       gap-of-two = refl;
       cut = refl;
+      bare-reader = refl;
     }

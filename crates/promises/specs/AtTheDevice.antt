@@ -2,7 +2,7 @@
 -- page." `ReadingBack` says it of the edge reader and of captures; here it is said of a device after any events from fresh on, over the edges that it takes.
 use Prim.Native.Nat.{ℕ, _^_, _<_}
 use mathlib.Core.Path.{_≡_}
-use mathlib.Core.Bool.{Bool, true, _&&_, _||_}
+use mathlib.Core.Bool.{Bool, true, false, not, _&&_, _||_}
 use mathlib.Core.List.{List, [], _∷_, _++_, map}
 use Rattle.answers.specs.declared.Refusal.the-variants.{Cut}
 use Rattle.answers.specs.Choices.{if_then_else_, _=?_}
@@ -15,7 +15,7 @@ use Rattle.line_reader.specs.Reading.{readerAfter}
 use Rattle.line_captures.specs.Captures.{isOpen}
 use Rattle.line_captures.specs.ReadingBack.{Carries, onlyLast, opensAfter}
 use Rattle.port_state.specs.declared.Device.{Device}
-use Rattle.port_state.specs.Memory.{freshDevice, isTalking}
+use Rattle.port_state.specs.Memory.{due, freshDevice, isTalking}
 use Rattle.port_hearing.specs.Edges.{takesEdges, pageIn}
 use Rattle.port_step.specs.declared.events.Event.{Event}
 use Rattle.port_step.specs.declared.events.Event.the-variants.{Edge, Tick, Sent, Report, Read, Write, Unnamed}
@@ -77,7 +77,7 @@ refusesPage s = among (s .kind) (4 ∷ 5 ∷ 6 ∷ 7 ∷ [])
 abbrev pub isOfPage : (word : ℕ) → Said → Bool
 isOfPage word s = refusesPage s || (s .kind =? pageRead word .kind && s .value =? word)
 
--- An edge that is taken with this answer and ends no page: the next edge will be taken too, and this one is among those that were.
+-- An edge that is taken with this answer and ends no page: an edge that came next would be taken too, and this one is among those that were.
 pub record GoesOn (past : List Event) (x : ℕ) (says : Said) : Type 0 where
   pub answer : stepDue (Edge x) (after past) .says ≡ says
   pub takes : takesEdges (after (past ++ (Edge x ∷ []))) ≡ true
@@ -89,20 +89,36 @@ pub record EndsPage (past : List Event) (e : Event) (w : ℕ) : Type 0 where
   pub edge : e ≡ Edge reading
   pub page : UnderWay past w (reading ∷ [])
 
+-- The events that change neither the state, in Ability, Ack and Complete, nor what was taken: all but edges, pages sent and writes to 512.
+abbrev pub comesBetween : Event → Bool
+comesBetween (Edge reading) = false
+comesBetween (Tick reading draw) = true
+comesBetween (Sent reading) = false
+comesBetween (Report reading up) = true
+comesBetween (Read reading register) = true
+comesBetween (Write reading register value) = not (register =? 512)
+comesBetween Unnamed = true
+
 -- What an edge where an attempt may open answers: Cut where it ends an open one, else nothing.
 abbrev pub cutOrNothing : List Event → Said
 cutOrNothing past = if isOpen (readerOf past) then refused Cut else nothing
 
 pub record ReadingAtTheDevice : Type 0 where
-  -- In Ability, Ack and Complete the reader hangs on the edges taken, and on nothing else.
+  -- Edges are ignored while a page is out, and outside Ability, Ack and Complete, also by devices that no events have made.
+  pub out-ignored : (d : Device) (x : ℕ) → d .link .talk .out ≡ true → stepDue (Edge x) d ≡ due nothing d
+  pub elsewhere-ignored : (d : Device) (x : ℕ) → isTalking (d .state) ≡ false → stepDue (Edge x) d ≡ due nothing d
+  -- In Ability, Ack and Complete the reader depends on the edges taken, and on nothing else.
   pub reader : (past : List Event) → isTalking (after past .state) ≡ true → after past .link .reader ≡ readerOf past
   -- A word's page, each gap in its window, its edges one after another, where its first is the first taken or follows quiet since the last edge taken: nothing is
   -- answered (Cut where the first ends an open attempt) until the last edge, and there what the state has for this page,
   pub page : (past : List Event) (x w : ℕ) (edges : List ℕ) → takesEdges (after past) ≡ true → opensAfter lsmMode (taken past) x ≡ true → w < 2 ^ 48
       → Carries lsmMode w (x ∷ edges) → saysTo (after past) (map Edge (x ∷ edges)) ≡ cutOrNothing past ∷ onlyLast nothing edges (pageSays w (after past))
-  -- which is the page itself or its refusal.
+  -- which is the page itself or a refusal of a page; which one, `pageIn` says.
   pub page-or-refusal : (word : ℕ) (d : Device) → takesEdges d ≡ true → isOfPage word (pageSays word d) ≡ true
-  -- Other events may come between its edges. So it is edge by edge: at the first,
+  -- Other events may come between its edges: these leave the state and the edges taken as they are.
+  pub between : (past : List Event) (e : Event) → isTalking (after past .state) ≡ true → comesBetween e ≡ true
+      → (after (past ++ (e ∷ [])) .state ≡ after past .state) × (taken (past ++ (e ∷ [])) ≡ taken past)
+  -- So it is edge by edge: at the first,
   pub first : (past : List Event) (x : ℕ) → takesEdges (after past) ≡ true → opensAfter lsmMode (taken past) x ≡ true → GoesOn past x (cutOrNothing past)
   -- at a further one, x, with at least one, y, to come,
   pub inside : (past : List Event) (x y w : ℕ) (rest : List ℕ) → UnderWay past w (x ∷ y ∷ rest) → GoesOn past x nothing

@@ -30,7 +30,7 @@ pub record Demands : Type 0 where
   -- the edge reader and of captures at both speeds ("Mode 0 is HSM", "Mode 1 is LSM"),
   pub high-speed : ReadingBack 0 hsmMode
   pub low-speed : ReadingBack 1 lsmMode
-  -- and of a device, over the edges that it takes.
+  -- and of a device, over the edges that it takes, those in Ability, Ack and Complete while no page is out.
   pub at-the-device : ReadingAtTheDevice
   -- "good if the check bits agree": no small damage makes another page of a page.
   pub small-damage : SmallDamage

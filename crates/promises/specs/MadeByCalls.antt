@@ -38,9 +38,9 @@ unfoldable pub allFit : List Event → Bool
 allFit [] = true
 allFit (e ∷ later) = valueFits e && allFit later
 
--- The states in which there is a held page, and those in which there is an outcome.
-abbrev pub hasHeld : State → Bool
-hasHeld state = byState state false false false true true false false
+-- Ack and Complete; Check-link and Up, where there is an outcome.
+abbrev pub isAckOrComplete : State → Bool
+isAckOrComplete state = byState state false false false true true false false
 
 abbrev pub hasOutcome : State → Bool
 hasOutcome state = byState state false false false false false true true
@@ -49,7 +49,7 @@ abbrev pub isResolved : Outcome → Bool
 isResolved NoneYet = false
 isResolved (Resolved resolution) = true
 
--- A reader with an open attempt stands where a page has a transition, one with one bits.
+-- An open attempt stands where some page has a transition, one whose bit there is one.
 abbrev pub standsRight : Reader → Bool
 standsRight Fresh = true
 standsRight (Open at last bits) = has (standsAt lsmMode at) true
@@ -63,8 +63,8 @@ pub record IsPage (word : ℕ) : Type 0 where
 pub record Made (d : Device) : Type 0 where
   -- In Ability, Ack and Complete the own page is a word with selector 1; in Ack and Complete the held page too, with another nonce.
   pub own : isTalking (d .state) ≡ true → IsPage (d .link .talk .own)
-  pub held : hasHeld (d .state) ≡ true → IsPage (d .link .talk .held)
-  pub no-tie : hasHeld (d .state) ≡ true → isTie (d .link .talk .own) (d .link .talk .held) ≡ false
+  pub held : isAckOrComplete (d .state) ≡ true → IsPage (d .link .talk .held)
+  pub no-tie : isAckOrComplete (d .state) ≡ true → isTie (d .link .talk .own) (d .link .talk .held) ≡ false
   -- In Complete at most two pages have been counted.
   pub count : d .state ≡ Complete → d .link .talk .count ≤ 2
   -- Outside Ability, Ack and Complete no page is out.
@@ -72,6 +72,7 @@ pub record Made (d : Device) : Type 0 where
   -- There is an outcome just in Check-link and Up, so a settled one only there; in Up it is settled.
   pub outcome : isResolved (d .link .outcome) ≡ hasOutcome (d .state)
   pub up : d .state ≡ Up → hasRate (d .link .outcome) ≡ true
+  -- The reader stands at a position of a page.
   pub reader : standsRight (d .link .reader) ≡ true
 
 -- The kinds of answer that each event may have: nothing, refusals by their numbers in 01's table, and of the others 0x80 a page, 0x81 a page ordered, 0x82

@@ -3,13 +3,16 @@
 use Prim.Native.Nat.{ℕ, _^_}
 use mathlib.Core.Path.{_≡_}
 use mathlib.Core.Bool.{true, false}
-use Rattle.answers.specs.declared.Refusal.{Refusal}
 use Rattle.answers.specs.declared.Refusal.the-variants as refusal
-use Rattle.answers.specs.Answers.{nothing, refused, settledOn}
+use Rattle.answers.specs.Answers.{nothing, refused}
 use Rattle.page_resolve.specs.declared.resolving.Resolution.{Resolution}
 use Rattle.page_resolve.specs.declared.resolving.Resolution.the-variants.{Refused, Settled}
 use Rattle.page_resolve.specs.Resolving.{saidOf}
+use Rattle.line_mode.specs.Modes.{lsmMode}
+use Rattle.line_reader.specs.declared.endings.Ending.the-variants.{Gap}
+use Rattle.line_reader.specs.declared.endings.Heard.the-variants.{Ended}
 use Rattle.line_reader.specs.declared.reader.Reader.the-variants.{Open, Dropping}
+use Rattle.line_reader.specs.Reading.{step, edgeOf}
 use Rattle.port_state.specs.declared.Device.{Device}
 use Rattle.port_state.specs.declared.State.the-variants.{Ability, Complete, CheckLink, Up}
 use Rattle.port_state.specs.declared.Outcome.the-variants.{Resolved}
@@ -52,7 +55,7 @@ Resolves d resolution =
     ≡ due (saidOf resolution) (withState CheckLink (withOutcome (Resolved resolution) (withTimer 1000 (withCount 3 (markWaiting 1000 (withOut false d))))))
 
 pub record NotMade : Type 0 where
-  -- No call has made one of them: they are not as `Made` has it.
+  -- No events from fresh on make one of them: they are not as `made` of `MadeByCalls` has it.
   pub no-wide-own : Made wideOwn → ⊥
   pub no-selector-zero : Made selectorZero → ⊥
   pub no-equal-nonces : Made equalNonces → ⊥
@@ -63,7 +66,7 @@ pub record NotMade : Type 0 where
   pub wide : Resolves wideOwn (Refused refusal.Wide)
   pub selector : Resolves selectorZero (Refused refusal.Selector)
   pub tie : Resolves equalNonces (Refused refusal.Tie)
-  -- "Each page sent adds one; at three, resolve": a count of three before it becomes four, which is taken as at three, and 3 is left.
+  -- "Each page sent adds one; at three, resolve": 01 does not name a count that is more; the definition resolves there too, and leaves 3.
   pub count : Resolves countOfThree (Settled 2 false)
   -- A page out in Up: "Sent ends it and marks waiting" there too, nothing is answered, and Up stays. "edges ignored"; a tick is not named.
   pub sent-in-up : stepDue (Sent 1000) outInUp ≡ due nothing (markWaiting 1000 (withOut false outInUp))
@@ -73,3 +76,5 @@ pub record NotMade : Type 0 where
   pub gap : stepDue (Edge 800) at156 ≡ due (refused refusal.Gap) (withReader (Dropping 800) at156)
   pub gap-of-two : stepDue (Edge 1600) at156 ≡ due (refused refusal.Gap) (withReader (Dropping 1600) at156)
   pub cut : stepDue (Edge 3441) at156 ≡ due (refused refusal.Cut) (withReader (Open 1 3441 0) at156)
+  -- The reader by itself.
+  pub bare-reader : edgeOf lsmMode (Open 156 0 0) 800 ≡ step (Ended Gap) (Dropping 800)

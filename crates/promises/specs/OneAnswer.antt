@@ -22,7 +22,7 @@ use Rattle.port_state.specs.declared.Device.{Device}
 use Rattle.port_state.specs.declared.Reply.{Reply}
 use Rattle.port_state.specs.Memory.{Due, Meets}
 
--- The one premise: an ability's number is a byte, by its type. `abilityIsByte` asks it of an answer; this asks it of what resolving came to.
+-- The one premise here: an ability's number is a byte, by its type. `abilityIsByte` asks it of an answer; this asks it of what resolving came to.
 abbrev pub resolvedIsByte : Resolution → Bool
 resolvedIsByte (resolution.Refused refusal) = true
 resolvedIsByte (resolution.Settled ability master) = isByte ability
@@ -31,8 +31,8 @@ resolvedIsByte (resolution.Settled ability master) = isByte ability
 abbrev pub Single : (A : Type 0) → Type 0
 Single A = (first second due : A) → first ≡ due → second ≡ due → first ≡ second
 
--- The contracts of public functions have three forms, `r ≡ ..`, `said r ≡ ..` and `Meets r ..`, and for lent memory `now (list .exit) ≡ ..`; `tools/contract-forms` looks
--- that there is no other.
+-- Of a result the contracts of public functions have three forms, `r ≡ ..`, `said r ≡ ..` and `Meets r ..`, and of lent memory one, `now (list .exit) ≡ ..`;
+-- `tools/contract-forms` checks that there is no other.
 pub record NoSecondAnswer : Type 0 where
   -- What a contract says outright: a number, yes or no, a lent list afterwards; a mode, and whether a number names one; what a gap is; what an edge brings to a
   -- reader; what reading a capture brings; what resolving comes to; a page's registers; a device.
@@ -52,8 +52,10 @@ pub record NoSecondAnswer : Type 0 where
   -- A reply that meets what is due: its answer and its device.
   pub reply : (first second : Reply) (due : Due) → abilityIsByte (first .answer) ≡ true → abilityIsByte (second .answer) ≡ true
       → Meets first due → Meets second due → first ≡ second
-  -- An outcome of resolving, the ending of an attempt, what an edge brings and what a gap is are told, each, by what is said of it.
-  pub told-outcome : (first second : Resolution) → resolvedIsByte first ≡ true → resolvedIsByte second ≡ true → saidOf first ≡ saidOf second → first ≡ second
+  -- What resolving comes to, how an attempt ends, what is heard of an edge and what a gap is are told, each, by what is said of it;
+  pub told-resolution : (first second : Resolution) → resolvedIsByte first ≡ true → resolvedIsByte second ≡ true → saidOf first ≡ saidOf second → first ≡ second
   pub told-ending : (first second : Ending) → saidOfEnding first ≡ saidOfEnding second → first ≡ second
   pub told-heard : (first second : Heard) → saidOfHeard first ≡ saidOfHeard second → first ≡ second
   pub told-gap : (first second : Judgement) → saidOfGap first ≡ saidOfGap second → first ≡ second
+  -- and a reader's step by what is said of it and the reader that it leaves.
+  pub told-step : (first second : Step) → saidOfHeard (first .heard) ≡ saidOfHeard (second .heard) → first .reader ≡ second .reader → first ≡ second
