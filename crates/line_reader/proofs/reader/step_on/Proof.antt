@@ -8,6 +8,9 @@ use Rattle.line_reader.proofs.StepLaws.{wrong, in-start, at-bit, at-clo
 use Rattle.line_reader.proofs.reader.step_on.Statement.{statement}
 use Rattle.line_reader.proofs.reader.step_on.Tie as tie
 
+returns-5 : tie.Need-returns-5
+returns-5 c = (rw (c .before .with-bit .ensures) at (c .moved3 .ensures)) ∙ at-clock _ _ _ _ _ (record { least = omega arith; most = omega arith }) (omega arith) (omega arith) (omega arith) (c .before .before .if6 .taken)
+
 pub step-on-spec : {M : Type 1} → statement M
 step-on-spec =
     tie.close
@@ -27,7 +30,7 @@ step-on-spec =
     (λ c. search needs)
     (λ c κs. search needs)
     (λ c κs. search needs)
-    (λ c. (rw (c .before .with-bit .ensures) at (c .moved3 .ensures)) ∙ at-clock _ _ _ _ _ (record { least = omega arith; most = omega arith }) (omega arith) (omega arith) (omega arith) (c .before .before .if6 .taken))
+    returns-5
     (λ c κs. search needs)
     (λ c. c .dropped3 .ensures ∙ wrong _ _ _ _ _ (after-clock _ _ _ (record { least = omega arith; most = omega arith }) (omega arith) (omega arith) (omega arith) ∙ lt-leb _ 2 (c .before .if6 .left)))
     (λ c κs. search needs)

@@ -8,6 +8,10 @@ use Rattle.line_writer.proofs.PagePattern.{at-start, at-clock, at-data,
 use Rattle.line_writer.proofs.transitions.transition_at.Statement.{statement}
 use Rattle.line_writer.proofs.transitions.transition_at.Tie as tie
 
+returns-3 : tie.Need-returns-3
+returns-3 c =
+    c .bit-at2 .ensures ∙ sym (at-data _ _ _ (c .before .before .before .if1 .left) (c .before .if3 .taken) (c .before .before .if2 .left))
+
 returns-4 : tie.Need-returns-4
 returns-4 c =
     c .bit-at3 .ensures
@@ -24,7 +28,7 @@ transition-at-spec =
     (λ c. sym (at-clock _ _ _ (c .before .if1 .left) (omega arith) (c .if2 .taken)))
     (λ c. search needs)
     (λ c κs. search needs)
-    (λ c. c .bit-at2 .ensures ∙ sym (at-data _ _ _ (c .before .before .before .if1 .left) (c .before .if3 .taken) (c .before .before .if2 .left)))
+    returns-3
     (λ c κs. search needs)
     returns-4
     (λ c. sym (at-156 _ _ _ (c .if4 .left) (omega arith) (c .before .before .if2 .left))))

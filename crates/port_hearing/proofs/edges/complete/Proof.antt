@@ -2,9 +2,12 @@ use borrow.Author.Needs.{needs}
 use Rattle.port_hearing.proofs.edges.complete.Statement.{statement}
 use Rattle.port_hearing.proofs.edges.complete.Tie as tie
 
+returns : tie.Need-returns
+returns c = simp (c .with-state .ensures, c .before .with-count .ensures, c .before .before .with-flags .ensures, c .before .before .before .with-partner .ensures, c .before .before .before .before .registers-of .ensures, c .before .before .before .before .before .with-mark .ensures, ← c .before .before .before .before .before .before .fault-after .ensures)
+
 pub complete-spec : {M : Type 1} → statement M
 complete-spec =
     tie.close
     (tie.spec
     (λ c κs. search needs) (λ c κs. search needs) (λ c κs. search needs) (λ c κs. search needs) (λ c κs. search needs) (λ c κs. search needs) (λ c κs. search needs)
-    (λ c. simp (c .with-state .ensures, c .before .with-count .ensures, c .before .before .with-flags .ensures, c .before .before .before .with-partner .ensures, c .before .before .before .before .registers-of .ensures, c .before .before .before .before .before .with-mark .ensures, ← c .before .before .before .before .before .before .fault-after .ensures)))
+    returns)

@@ -4,6 +4,10 @@ use Rattle.port_hearing.specs.Edges.{pageInAbility}
 use Rattle.port_hearing.proofs.edges.page_in_ability.Statement.{statement}
 use Rattle.port_hearing.proofs.edges.page_in_ability.Tie as tie
 
+returns : tie.Need-returns
+unfolding pageInAbility
+returns c = as-due (c .answered .ensures) (simp (c .before .if1 .taken, ← c .before .before .has-other-selector .ensures))
+
 returns-2 : tie.Need-returns-2
 unfolding pageInAbility
 returns-2 c = as-due (c .answered2 .ensures) (simp (c .before .enter-break .ensures, c .before .before .if2 .taken, ← c .before .before .before .is-tie .ensures, c .before .before .before .before .if1 .left, ← c .before .before .before .before .before .has-other-selector .ensures))
@@ -14,7 +18,7 @@ page-in-ability-spec =
     tie.close
     (tie.spec
     (λ c κs. search needs) (λ c κs. search needs)
-    (λ c. as-due (c .answered .ensures) (simp (c .before .if1 .taken, ← c .before .before .has-other-selector .ensures)))
+    returns
     (λ c κs. search needs) (λ c κs. search needs) (λ c κs. search needs)
     returns-2
     (λ c κs. search needs) (λ c κs. search needs)

@@ -9,4 +9,4 @@ echoing-page-spec =
     tie.close
     (tie.spec
     (λ c κs. search needs) (λ c κs. search needs) (λ c κs. search needs)
-    (λ c. simp (← c .set2 .ensures, ← c .before .set .ensures, ← c .before .before .get .ensures)))
+    (λ c. simp (c .set2 .ensures, c .before .set .ensures, c .before .before .get .ensures)))
