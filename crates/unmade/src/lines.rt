@@ -4,8 +4,8 @@ use answers::KIND;
 use libc::STDOUT_FILENO;
 use line_reader::Reader;
 use port_state::Device;
+use port_state::Link;
 use port_state::State;
-use port_state::Talk;
 use port_step::Event;
 use port_step::step;
 
@@ -37,14 +37,22 @@ fn say_state(state: State) {
     }
 }
 
+// The own page and the held one, in hex.
+fn say_pages(own: u64, held: u64) {
+    say(b", own ");
+    io::print_hex(STDOUT_FILENO, own, 12);
+    say(b", held ");
+    io::print_hex(STDOUT_FILENO, held, 12);
+}
+
 // Whether a page is out, and the count.
-fn say_talk(talk: Talk) {
-    if talk.out {
+fn say_talk(out: bool, count: u32) {
+    if out {
         say(b", page out");
     } else {
         say(b", no page out");
     }
-    say_with(b", count ", talk.count as u64);
+    say_with(b", count ", count as u64);
 }
 
 fn say_reader(reader: Reader) {
@@ -58,16 +66,21 @@ fn say_reader(reader: Reader) {
     }
 }
 
+// What is left of the link.
+fn say_link(link: Link) {
+    let talk = link.talk;
+    say_pages(talk.own, talk.held);
+    say_talk(talk.out, talk.count);
+    let reader = link.reader;
+    say_reader(reader);
+}
+
 // What is left of the record.
 fn say_device(device: Device) {
     let state = device.state;
     say_state(state);
     let link = device.link;
-    let talk = link.talk;
-    say_talk(talk);
-    let reader = link.reader;
-    say_reader(reader);
-    say(b"\n");
+    say_link(link);
 }
 
 // Gives the record the event, and tells what comes of it behind the words for both.
@@ -77,4 +90,5 @@ pub(crate) fn tell(device: Device, event: Event) {
     say_answer(answer);
     let after = reply.device;
     say_device(after);
+    say(b"\n");
 }
