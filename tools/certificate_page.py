@@ -21,7 +21,7 @@ NOT_SAID = [
     'Not that the definitions (part 3) say what the scope document ("01") says: people judge that, with docs/AUDITING.md and docs/TRACE.md.',
     'Not that a module conforms to IEEE 802.3: Maststep follows 01, and docs/DIFFERENCES.md tells where 01 parts from the standards.',
     'Not that what the programs drive and listing print is proved: they are proved safe and to end; what they print is tested.',
-    'Nothing about speed, and nothing about any file with another SHA-256 than those in part 6.',
+    'Nothing about speed, and nothing about any file with another SHA-256 than those in part 6. (The program unmade is a test of the gate and is not delivered.)',
     'Nothing about who ran it: this page has no signature. Whoever files it vouches for where it comes from.',
 ]
 
