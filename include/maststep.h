@@ -1,5 +1,5 @@
 /*
- * Maststep: the pages of a line negotiation, for C and C++ on x86-64 Linux.
+ * Maststep: the pages of a line negotiation, for C (from C99 on) and C++ on x86-64 Linux.
  *
  * Link with libmaststep.a. It needs nothing at all beside it, not even the C library: it calls nothing outside
  * of itself, and has no data of its own that it writes. It has less than 10 KiB of code and constants.
@@ -38,13 +38,13 @@ enum {
     MASTSTEP_CHECK = 3,       /* an attempt ended: it had all transitions, but the check bits do not agree */
     MASTSTEP_SELECTOR = 4,    /* refused: a word's selector is not 1 */
     MASTSTEP_TIE = 5,         /* refused: the two words have the same nonce */
-    MASTSTEP_CHANGED = 6,     /* refused: the partner's page is another than the one held */
-    MASTSTEP_ECHO = 7,        /* refused: the partner echoes a nonce that is not the own one */
+    MASTSTEP_CHANGED = 6,     /* refused: the partner's page is another than the one held, Ack and echo aside */
+    MASTSTEP_ECHO = 7,        /* refused: the partner's page has Ack 1 and echoes a nonce that is not the own one */
     MASTSTEP_NONE = 8,        /* refused: the two words have no rate in common */
     MASTSTEP_ROLES = 9,       /* refused: the two words insist on the same role */
     MASTSTEP_REGISTER = 10,   /* refused: there is no such register */
     MASTSTEP_TURN = 11,       /* refused: no page is out that could have been sent */
-    MASTSTEP_ROOM = 12,       /* refused: the place is past the end, or too few entries follow it */
+    MASTSTEP_ROOM = 12,       /* refused: the place is past the end, or too few entries stand from it on */
     MASTSTEP_WIDE = 13,       /* refused: the word is 2^48 or more */
     MASTSTEP_MODE = 14,       /* refused: the mode is neither 0 nor 1 */
     MASTSTEP_PAGE = 0x80,     /* a good page was read; the value is its word */
@@ -84,18 +84,21 @@ enum {
     MASTSTEP_PARTNER_HIGH = 519       /* D32-D47, read only */
 };
 
-/* The bits of MASTSTEP_CONTROL. It reads as MASTSTEP_CONTROL_ENABLE alone. */
+/* The bits of MASTSTEP_CONTROL. A read shows MASTSTEP_CONTROL_ENABLE only; all others read as zero. */
 enum {
     MASTSTEP_CONTROL_RESET = 0x8000,  /* written as one: the device is fresh, and the rest of this write unused */
     MASTSTEP_CONTROL_ENABLE = 0x1000, /* zero: off. One: the negotiation begins if it was off */
     MASTSTEP_CONTROL_RESTART = 0x0200 /* with MASTSTEP_CONTROL_ENABLE: the negotiation begins anew */
 };
 
-/* The bits of MASTSTEP_STATUS. */
+/*
+ * The bits of MASTSTEP_STATUS. A read clears page received and remote fault, and nothing else does but a reset: after a
+ * restart or a swap they may still be of a partner before, until they have been read once.
+ */
 enum {
-    MASTSTEP_STATUS_PAGE_RECEIVED = 0x40, /* the partner has answered; a read clears this */
+    MASTSTEP_STATUS_PAGE_RECEIVED = 0x40, /* a partner has answered since the last read */
     MASTSTEP_STATUS_COMPLETE = 0x20,      /* the link is up */
-    MASTSTEP_STATUS_REMOTE_FAULT = 0x10,  /* the page that it answered with had remote fault; a read clears this */
+    MASTSTEP_STATUS_REMOTE_FAULT = 0x10,  /* a page that a partner answered with since the last read had remote fault */
     MASTSTEP_STATUS_ALWAYS_ONE = 0x08,
     MASTSTEP_STATUS_LINK_LATCH = 0x04     /* the link was up at the last read, and has not gone since */
 };
@@ -193,8 +196,8 @@ uint64_t maststep_resolve(uint64_t own, uint64_t partner);
 
 /*
  * Says what a gap of this many ns between two transitions is. Answers MASTSTEP_NUMBER with 1 to 4, the
- * number of positions that the gap counts as; MASTSTEP_QUIET at the mode's quiet limit or more; else
- * MASTSTEP_UNFIT. A mode other than 0 and 1 is refused: MASTSTEP_MODE (14).
+ * number of positions that the gap counts as; MASTSTEP_QUIET at the mode's quiet limit or more, which is 130 ns at
+ * high speed and 3441 at low speed; else MASTSTEP_UNFIT. A mode other than 0 and 1 is refused: MASTSTEP_MODE (14).
  */
 uint64_t maststep_judge(uint32_t mode, uint32_t gap);
 

@@ -32,12 +32,11 @@ def packed(numbers, letter='Q'):
 
 
 def asked(operation, *arguments):
-    """The answer cells of one call."""
+    """The answer cells of one call: none where it is one that drive answers with none."""
     out = subprocess.run([built()], input=packed([operation, len(arguments), *arguments]), stdout=subprocess.PIPE, check=True).stdout
-    count, *answers = struct.unpack(f'<{len(out) // 8}Q', out)
-    if count == 0 or count != len(answers):
+    if not out or struct.unpack_from('<Q', out)[0] != len(out) // 8 - 1:
         sys.exit(f"drive does not answer operation {operation}; 'rt check drive' builds it anew")
-    return answers
+    return list(struct.unpack(f'<{len(out) // 8}Q', out)[1:])
 
 
 def kind(answer):
