@@ -1,7 +1,7 @@
 -- The reader of a device after any events: along each event it is made fresh, or has taken the edges that were taken. So in Ability, Ack and Complete it is what the
 -- edges taken since Ability was entered have made of a fresh one.
 use Prim.Native.Nat.{ℕ, zero, suc, _+_}
-use mathlib.Core.Path.{_≡_, refl, sym, ap, _∙_}
+use mathlib.Core.Path.{_≡_, refl, sym, ap, ap₂, _∙_}
 use mathlib.Core.Bool.{Bool, true, false, cond, not, _&&_, false≢true}
 use mathlib.Core.List.{List, [], _∷_, _++_}
 use lib.Dec.{eqb, leb}
@@ -221,21 +221,21 @@ asked-stands at (suc n) h =
     and-left (has (standsAt lsmMode (at + suc n)) true) (free lsmMode at n)
     (and-right (has (standsAt lsmMode at) true) (has (standsAt lsmMode (at + suc n)) true && free lsmMode at n) h)
 
-first-stands : has (standsAt lsmMode 1) true ≡ true
+first-stands : (x bits : ℕ) → standsRight (Open 1 x bits) ≡ true
 unfolding standsAt
-first-stands = refl
+first-stands x bits = refl
 
 arrives-stands : (at bits x : ℕ) → has (standsAt lsmMode at) true ≡ true → standsRight (arrives at bits x .reader) ≡ true
 unfolding arrives
-arrives-stands at bits x h = by (eqb at 157)
+arrives-stands at bits x h = by (eqb at 157) refl
   where
-    by : (t : Bool) → standsRight (cond t (step (Ended (pageEnd bits)) (Dropping x)) (step Nothing (Open at x bits)) .reader) ≡ true
-    by true = refl
-    by false = h
+    by : (t : Bool) → eqb at 157 ≡ t → standsRight (cond t (step (Ended (pageEnd bits)) (Dropping x)) (step Nothing (Open at x bits)) .reader) ≡ true
+    by true e = refl
+    by false e = ap₂ _&&_ h (ap not e)
 
 goes-stands : (at bits x : ℕ) (j : Judgement) → standsRight (goesOn lsmMode at bits x j .reader) ≡ true
 unfolding goesOn
-goes-stands at bits x Quiet = first-stands
+goes-stands at bits x Quiet = first-stands x 0
 goes-stands at bits x Unfit = refl
 goes-stands at bits x (Positions k) = by (asks lsmMode at k) refl
   where
@@ -245,13 +245,13 @@ goes-stands at bits x (Positions k) = by (asks lsmMode at k) refl
 
 drops-stands : (x : ℕ) (j : Judgement) → standsRight (dropsOn x j .reader) ≡ true
 unfolding dropsOn
-drops-stands x Quiet = first-stands
+drops-stands x Quiet = first-stands x 0
 drops-stands x Unfit = refl
 drops-stands x (Positions k) = refl
 
 edge-stands : (r : Reader) (x : ℕ) → standsRight (edgeOf lsmMode r x .reader) ≡ true
 unfolding edgeOf
-edge-stands Fresh x = first-stands
+edge-stands Fresh x = first-stands x 0
 edge-stands (Open at last bits) x = goes-stands at bits x (judgementOf lsmMode (timeBetween x last))
 edge-stands (Dropping last) x = drops-stands x (judgementOf lsmMode (timeBetween x last))
 

@@ -77,7 +77,7 @@ refusesPage s = among (s .kind) (4 ∷ 5 ∷ 6 ∷ 7 ∷ [])
 abbrev pub isOfPage : (word : ℕ) → Said → Bool
 isOfPage word s = refusesPage s || (s .kind =? pageRead word .kind && s .value =? word)
 
--- An edge that is taken with this answer and ends no page: an edge that came next would be taken too, and this one is among those that were.
+-- An edge that is taken, with this answer: an edge that came next would be taken too, and this one is now the last of those taken.
 pub record GoesOn (past : List Event) (x : ℕ) (says : Said) : Type 0 where
   pub answer : stepDue (Edge x) (after past) .says ≡ says
   pub takes : takesEdges (after (past ++ (Edge x ∷ []))) ≡ true
@@ -89,7 +89,7 @@ pub record EndsPage (past : List Event) (e : Event) (w : ℕ) : Type 0 where
   pub edge : e ≡ Edge reading
   pub page : UnderWay past w (reading ∷ [])
 
--- The events that change neither the state, in Ability, Ack and Complete, nor what was taken: all but edges, pages sent and writes to 512.
+-- Events that change neither the state, in Ability, Ack and Complete, nor what was taken, whatever the device: any that is no edge, no page sent and no write to 512.
 abbrev pub comesBetween : Event → Bool
 comesBetween (Edge reading) = false
 comesBetween (Tick reading draw) = true
@@ -115,7 +115,8 @@ pub record ReadingAtTheDevice : Type 0 where
       → Carries lsmMode w (x ∷ edges) → saysTo (after past) (map Edge (x ∷ edges)) ≡ cutOrNothing past ∷ onlyLast nothing edges (pageSays w (after past))
   -- which is the page itself or a refusal of a page; which one, `pageIn` says.
   pub page-or-refusal : (word : ℕ) (d : Device) → takesEdges d ≡ true → isOfPage word (pageSays word d) ≡ true
-  -- Other events may come between its edges: these leave the state and the edges taken as they are.
+  -- Other events may come between its edges: these leave the state and the edges taken as they are. (A tick may order the own page; edges are then ignored until
+  -- it is sent.)
   pub between : (past : List Event) (e : Event) → isTalking (after past .state) ≡ true → comesBetween e ≡ true
       → (after (past ++ (e ∷ [])) .state ≡ after past .state) × (taken (past ++ (e ∷ [])) ≡ taken past)
   -- So it is edge by edge: at the first,

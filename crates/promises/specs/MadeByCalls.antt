@@ -2,9 +2,9 @@
 -- part of a device are public too, for other crates, and can make any record; some that no events make are in `NotMade`.)
 use Prim.Native.Nat.{ℕ, _^_, _<_, _≤_}
 use mathlib.Core.Path.{_≡_}
-use mathlib.Core.Bool.{Bool, true, false, _&&_}
+use mathlib.Core.Bool.{Bool, true, false, not, _&&_}
 use mathlib.Core.List.{List, [], _∷_}
-use Rattle.answers.specs.Choices.{_<?_}
+use Rattle.answers.specs.Choices.{_<?_, _=?_}
 use Rattle.page_word.specs.Word.{isWide, among}
 use Rattle.page_word.specs.Fields.{hasOtherSelector, isTie}
 use Rattle.line_mode.specs.Modes.{lsmMode}
@@ -38,10 +38,11 @@ unfoldable pub allFit : List Event → Bool
 allFit [] = true
 allFit (e ∷ later) = valueFits e && allFit later
 
--- Ack and Complete; Check-link and Up, where there is an outcome.
+-- The states in which a held page is looked at;
 abbrev pub isAckOrComplete : State → Bool
 isAckOrComplete state = byState state false false false true true false false
 
+-- those in which there is an outcome.
 abbrev pub hasOutcome : State → Bool
 hasOutcome state = byState state false false false false false true true
 
@@ -49,10 +50,10 @@ abbrev pub isResolved : Outcome → Bool
 isResolved NoneYet = false
 isResolved (Resolved resolution) = true
 
--- An open attempt stands where some page has a transition, one whose bit there is one.
+-- An open attempt stands where every page has a transition, or one with a one bit there, and not at 157, which ends it.
 abbrev pub standsRight : Reader → Bool
 standsRight Fresh = true
-standsRight (Open at last bits) = has (standsAt lsmMode at) true
+standsRight (Open at last bits) = has (standsAt lsmMode at) true && not (at =? 157)
 standsRight (Dropping last) = true
 
 -- A word with selector 1.
@@ -72,7 +73,7 @@ pub record Made (d : Device) : Type 0 where
   -- There is an outcome just in Check-link and Up, so a settled one only there; in Up it is settled.
   pub outcome : isResolved (d .link .outcome) ≡ hasOutcome (d .state)
   pub up : d .state ≡ Up → hasRate (d .link .outcome) ≡ true
-  -- The reader stands at a position of a page.
+  -- An open attempt stands at a position of a page, before the last.
   pub reader : standsRight (d .link .reader) ≡ true
 
 -- The kinds of answer that each event may have: nothing, refusals by their numbers in 01's table, and of the others 0x80 a page, 0x81 a page ordered, 0x82
@@ -94,5 +95,5 @@ pub record MadeByCalls : Type 0 where
   -- and each event has an answer of one of its kinds, with a value below 2^48: as one number of 64 bits it loses nothing.
   pub kinds : (events : List Event) (e : Event) → allFit events ≡ true → among (stepDue e (after events) .says .kind) (kindsFor e) ≡ true
   pub values : (events : List Event) (e : Event) → allFit events ≡ true → stepDue e (after events) .says .value < 2 ^ 48
-  -- The events of a run, whatever the cells, are such.
+  -- The events of a run, whatever the cells, all fit.
   pub run : (cells : List ℕ) → allFit (eventsOf cells) ≡ true

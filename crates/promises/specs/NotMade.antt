@@ -55,7 +55,7 @@ Resolves d resolution =
     ≡ due (saidOf resolution) (withState CheckLink (withOutcome (Resolved resolution) (withTimer 1000 (withCount 3 (markWaiting 1000 (withOut false d))))))
 
 pub record NotMade : Type 0 where
-  -- No events from fresh on make one of them: they are not as `made` of `MadeByCalls` has it.
+  -- No events from fresh on, with values of 16 bits, make one of them: they are not as `made` of `MadeByCalls` has it.
   pub no-wide-own : Made wideOwn → ⊥
   pub no-selector-zero : Made selectorZero → ⊥
   pub no-equal-nonces : Made equalNonces → ⊥
@@ -72,7 +72,7 @@ pub record NotMade : Type 0 where
   pub sent-in-up : stepDue (Sent 1000) outInUp ≡ due nothing (markWaiting 1000 (withOut false outInUp))
   pub edge-in-up : stepDue (Edge 1000) outInUp ≡ due nothing outInUp
   pub tick-in-up : stepDue (Tick 1000 5) outInUp ≡ due nothing outInUp
-  -- A reader at position 156: no gap is right there, not one position, which would lead to 157, and not two, as from 155; a quiet one is Cut.
+  -- A reader at position 156: a gap of one position, which would lead to 157, is wrong, and so is one of two, which is right at 155; a quiet one is Cut.
   pub gap : stepDue (Edge 800) at156 ≡ due (refused refusal.Gap) (withReader (Dropping 800) at156)
   pub gap-of-two : stepDue (Edge 1600) at156 ≡ due (refused refusal.Gap) (withReader (Dropping 1600) at156)
   pub cut : stepDue (Edge 3441) at156 ≡ due (refused refusal.Cut) (withReader (Open 1 3441 0) at156)
