@@ -41,7 +41,7 @@ use Rattle.port_hearing.specs.Edges.{isChanged, echoesOther, pageInAbility, pag
 use Rattle.port_step.specs.declared.events.Event.{Event}
 use Rattle.port_step.specs.declared.events.Event.the-variants.{Edge, Tick, Sent, Report, Read, Write, Unnamed}
 use Rattle.port_step.specs.Steps.{stepOver, stepDue, afterAll}
-use Rattle.promises.specs.AtTheDevice.{takenOf, takenNext, takenAlong, after, taken, readerOf}
+use Rattle.promises.specs.AtTheDevice.{takenOf, takenNext, takenAlong, after, readerOf}
 use Rattle.promises.specs.MadeByCalls.{standsRight}
 
 -- The reader after an event, by whether the device talked before it, and talks after it: fresh, where it does not do both; or the one of before after the edges

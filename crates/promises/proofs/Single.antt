@@ -1,13 +1,11 @@
 -- No second answer fits: what is said tells the answer, so two that say the same are one.
 use mathlib.Core.Path.{_≡_, refl, sym, ap, ap₂, _∙_}
-use mathlib.Core.Bool.{Bool, true, false, cond}
-use Prim.Native.Nat.{ℕ}
+use mathlib.Core.Bool.{true, cond}
 use lib.Dec.{eqb}
 use Rattle.answers.specs.declared.Answer.{Answer}
 use Rattle.answers.specs.declared.Answer.the-variants as answer
-use Rattle.answers.specs.declared.Refusal.{Refusal}
 use Rattle.answers.specs.declared.Refusal.the-variants.{Gap}
-use Rattle.answers.specs.Answers.{Said, said}
+use Rattle.answers.specs.Answers.{Said}
 use Rattle.answers.proofs.OneAnswer.{one-answer}
 use Rattle.page_resolve.specs.declared.resolving.Resolution.{Resolution}
 use Rattle.page_resolve.specs.declared.resolving.Resolution.the-variants.{Refused, Settled}
@@ -22,8 +20,6 @@ use Rattle.line_mode.specs.declared.modes.Judgement.{Judgement}
 use Rattle.line_mode.specs.declared.modes.Judgement.the-variants.{Positions, Quiet, Unfit}
 use Rattle.line_mode.specs.Gaps.{saidOfGap}
 use Rattle.port_state.specs.declared.Device.{Device}
-use Rattle.port_state.specs.declared.Reply.{Reply}
-use Rattle.port_state.specs.Memory.{Due, Meets}
 use Rattle.promises.specs.OneAnswer.{resolvedIsByte, Single, NoSecondAnswer}
 
 -- Two that are the same thing are the same.
@@ -56,11 +52,7 @@ gap-again (Positions k) = refl
 gap-again Quiet = refl
 gap-again Unfit = refl
 
--- What resolving came to, as an answer, and the other way round.
-abbrev answerOf : Resolution → Answer
-answerOf (Refused refusal) = answer.Refused refusal
-answerOf (Settled ability master) = answer.Settled ability master
-
+-- What resolving came to, found again in an answer that says it.
 abbrev resolutionIn : Answer → Resolution
 resolutionIn answer.Nothing = Refused Gap
 resolutionIn (answer.Refused refusal) = Refused refusal

@@ -17,24 +17,23 @@ use Rattle.page_word.specs.declared.fields.Field.the-variants as field
 use Rattle.page_word.proofs.FieldLaws.{part-below}
 use Rattle.page_resolve.specs.Rates.{rateOrder}
 use Rattle.page_resolve.specs.Resolving.{resolutionOf, saidOf}
-use Rattle.page_resolve.proofs.SettledAnswers.{Settles, resolves}
+use Rattle.page_resolve.proofs.SettledAnswers.{resolves}
 use Rattle.line_mode.specs.declared.modes.LineMode.{LineMode}
 use Rattle.line_reader.specs.declared.endings.Ending.the-variants.{Good, Gap, Cut, Check}
 use Rattle.line_reader.specs.declared.endings.Heard.{Heard}
 use Rattle.line_reader.specs.declared.endings.Heard.the-variants.{Nothing, Ended}
-use Rattle.line_reader.specs.declared.reader.Reader.{Reader}
 use Rattle.line_reader.specs.Reading.{edgeOf}
 use Rattle.port_state.specs.declared.State.{State}
 use Rattle.port_state.specs.declared.State.the-variants as state
 use Rattle.port_state.specs.declared.Talk.{Talk}
 use Rattle.port_state.specs.declared.Outcome.{Outcome}
-use Rattle.port_state.specs.declared.Outcome.the-variants.{NoneYet, Resolved}
+use Rattle.port_state.specs.declared.Outcome.the-variants.{NoneYet}
 use Rattle.port_state.specs.declared.Device.{Device}
 use Rattle.port_state.specs.declared.page_registers.PageRegisters.{PageRegisters}
 use Rattle.port_state.specs.declared.page_registers.Third.{Third}
 use Rattle.port_state.specs.declared.page_registers.Third.the-variants.{Low, Middle, High}
 use Rattle.port_state.specs.PageRegisters.{noPage, thirdOf, withThird, wordOf, registersOf}
-use Rattle.port_state.specs.Memory.{Due, due, isTalking, isOff, isUp, noTalk, freshDevice, intoBreak, intoOff}
+use Rattle.port_state.specs.Memory.{Due, due, isTalking, isOff, isUp, freshDevice, intoBreak, intoOff}
 use Rattle.port_state.specs.Changes.{withState, withReader, withOut, withLatch}
 use Rattle.port_registers.specs.declared.Bank.{Bank}
 use Rattle.port_registers.specs.declared.Bank.the-variants.{Advertised, Partner}
@@ -42,8 +41,8 @@ use Rattle.port_registers.specs.declared.Register.{Register}
 use Rattle.port_registers.specs.declared.Register.the-variants.{Control, Status, Part, Missing}
 use Rattle.port_registers.specs.Registers.{registerOf, bankOf, bitIf, statusBits, readAt, readDue, entersBreakBy, commanded, writeAt, writeDue}
 use Rattle.port_timing.specs.declared.profile.Profile.{Profile}
-use Rattle.port_timing.specs.Ticks.{lowSpeed, runOut, inhibitOf, ownPage, echoingPage, mayOrder, orders, tickIn, tickDue}
-use Rattle.port_timing.specs.Sending.{ended, resolved, counted, ifOut, sentIn, sentDue, hasRate, reportIn, reportDue}
+use Rattle.port_timing.specs.Ticks.{lowSpeed, runOut, inhibitOf, mayOrder, orders, tickIn, tickDue}
+use Rattle.port_timing.specs.Sending.{counted, ifOut, sentIn, sentDue, hasRate, reportIn, reportDue}
 use Rattle.port_hearing.specs.Edges.{isChanged, echoesOther, pageInAbility, pageInAck, pageIn, hears, edgeDue}
 use Rattle.port_step.specs.declared.events.Event.{Event}
 use Rattle.port_step.specs.declared.events.Event.the-variants.{Edge, Tick, Sent, Report, Read, Write, Unnamed}

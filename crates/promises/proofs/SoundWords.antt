@@ -15,18 +15,16 @@ use Rattle.line_mode.specs.declared.modes.Judgement.{Judgement}
 use Rattle.line_mode.specs.declared.modes.Judgement.the-variants.{Positions, Quiet, Unfit}
 use Rattle.line_mode.specs.Clock.{timeBetween}
 use Rattle.line_mode.specs.Gaps.{judgementOf}
-use Rattle.line_reader.specs.declared.endings.Ending.{Ending}
 use Rattle.line_reader.specs.declared.endings.Ending.the-variants.{Good, Gap, Cut, Check}
 use Rattle.line_reader.specs.declared.endings.Heard.{Heard}
 use Rattle.line_reader.specs.declared.endings.Heard.the-variants.{Nothing, Ended}
 use Rattle.line_reader.specs.declared.reader.Reader.{Reader}
 use Rattle.line_reader.specs.declared.reader.Reader.the-variants.{Fresh, Open, Dropping}
-use Rattle.line_reader.specs.declared.reader.Step.{Step}
 use Rattle.line_reader.specs.Pattern.{asks}
 use Rattle.line_reader.specs.Reading.{step, withBit, pageEnd, arrives, goesOn, dropsOn, edgeOf}
 use Rattle.port_state.specs.PageRegisters.{wordOf}
 use Rattle.port_state.specs.declared.page_registers.PageRegisters.{PageRegisters}
-use Rattle.port_timing.specs.Ticks.{nonceFor, ownPage, echoingPage}
+use Rattle.port_timing.specs.Ticks.{ownPage, echoingPage}
 
 -- A good page, if one is heard, is a word, from whatever reader.
 abbrev pub HeardWord : Heard → Type 0

@@ -1,6 +1,6 @@
 -- The events that leave a device in Ability, Ack or Complete where it is, and take no edge.
 use Prim.Native.Nat.{ℕ}
-use mathlib.Core.Path.{_≡_, refl, sym, ap, _∙_}
+use mathlib.Core.Path.{_≡_, refl, sym, _∙_}
 use mathlib.Core.Bool.{Bool, true, false, cond, not, false≢true}
 use mathlib.Core.List.{[]}
 use lib.Dec.{eqb}
