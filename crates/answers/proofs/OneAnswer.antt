@@ -11,7 +11,7 @@ use lib.Dec.{eqb, leb, ltb}
 use lib.Pow.{pow-pos}
 use borrow.Author.Tests.{le-leb, lt-leb, ltb-true}
 use Rattle.answers.specs.declared.Refusal.{Refusal}
-use Rattle.answers.specs.declared.Refusal.the-variants.{Gap, Cut, Check, Selector, Tie, Changed, Echo, None, Roles, Register, Turn, Room, Wide, Mode, Odd}
+use Rattle.answers.specs.declared.Refusal.the-variants.{Gap, Cut, Check, Selector, Tie, Changed, Echo, None, Roles, Register, Turn, Room, Wide, Mode, Odd, Toggle}
 use Rattle.answers.specs.declared.Answer.{Answer}
 use Rattle.answers.specs.declared.Answer.the-variants.{Nothing, Refused, Page, Order, Settled, Value, Number, Quiet, Unfit}
 use Rattle.answers.specs.Numbers.{numberOf}
@@ -33,7 +33,8 @@ refusalAt n =
     (cond (eqb n 11) Turn
     (cond (eqb n 12) Room
     (cond (eqb n 13) Wide
-    (cond (eqb n 14) Mode Odd)))))))))))))
+    (cond (eqb n 14) Mode
+    (cond (eqb n 15) Odd Toggle))))))))))))))
 
 abbrev settledAt : Bool → ℕ → Answer
 settledAt true v = Settled (v - 256) true
@@ -69,6 +70,7 @@ refusal-again Room = refl
 refusal-again Wide = refl
 refusal-again Mode = refl
 refusal-again Odd = refl
+refusal-again Toggle = refl
 
 settled-again : (a : ℕ) (m : Bool) → a < 256 → heard (said (Settled a m)) ≡ Settled a m
 settled-again a true h = let e : leb 256 (a + 256) ≡ true = le-leb 256 (a + 256) (omega arith) in let d : a + 256 - 256 ≡ a = omega arith in rw e (rw d refl)
@@ -105,6 +107,7 @@ never-zero Room = refl
 never-zero Wide = refl
 never-zero Mode = refl
 never-zero Odd = refl
+never-zero Toggle = refl
 
 -- The kind of an answer is read off its number.
 pub kind-of-packed : (s : Said) → packed s / 2 ^ 56 ≡ s .kind

@@ -1,7 +1,7 @@
--- 01, "Refusal numbers": the table's two first columns.
+-- 01, "Refusal numbers": the table's first two columns; and what 01's amendments add to them.
 use Prim.Native.Nat.{ℕ}
 use Rattle.answers.specs.declared.Refusal.{Refusal}
-use Rattle.answers.specs.declared.Refusal.the-variants.{Gap, Cut, Check, Selector, Tie, Changed, Echo, None, Roles, Register, Turn, Room, Wide, Mode, Odd}
+use Rattle.answers.specs.declared.Refusal.the-variants.{Gap, Cut, Check, Selector, Tie, Changed, Echo, None, Roles, Register, Turn, Room, Wide, Mode, Odd, Toggle}
 
 -- Each refusal's number.
 abbrev pub numberOf : Refusal → ℕ
@@ -20,3 +20,5 @@ numberOf Room = 12
 numberOf Wide = 13
 numberOf Mode = 14
 numberOf Odd = 15
+-- 01's amendments, request 7: "Refusals: 17 Toggle (Break)".
+numberOf Toggle = 17

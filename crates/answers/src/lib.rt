@@ -1,11 +1,11 @@
-// Document 01's table of refusals, and the one way in which an answer becomes a number.
+// The table of refusals of document 01 and of its amendments, and the one way in which an answer becomes a number.
 ghost use mathlib.Core.Path.{_≡_};
 ghost use Prim.Native.Nat.{_+_};
 ghost use Rattle.answers.specs.Choices.{if_then_else_};
 ghost use Rattle.answers.specs.Numbers.{numberOf};
 ghost use Rattle.answers.specs.Answers.{said, packed, saying};
 
-// The refusals, in the order of 01's table.
+// The refusals, in the order of their numbers: 01's table, then what requests have added.
 pub enum Refusal {
     Gap,
     Cut,
@@ -22,6 +22,7 @@ pub enum Refusal {
     Wide,
     Mode,
     Odd,
+    Toggle,
 }
 
 // What a call answers. A value stands in the variant that carries it.
@@ -58,6 +59,7 @@ impl Refusal {
             Refusal::Wide => 13,
             Refusal::Mode => 14,
             Refusal::Odd => 15,
+            Refusal::Toggle => 17,
         }
     }
 }

@@ -1,2 +1,4 @@
 pub mod Word
 pub mod Fields
+pub mod NextPages
+pub mod Thirds

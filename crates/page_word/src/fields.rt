@@ -20,7 +20,7 @@ pub enum Field {
 }
 
 // The part of `bits` bits that starts at bit `low`.
-fn part(word: u64, low: u32, bits: u32) -> u64
+pub(crate) fn part(word: u64, low: u32, bits: u32) -> u64
     requires { ⌜ low + bits ≤ 48 ⌝ }
     ensures { λ r. ⌜ r ≡ part low bits word ⌝ }
 {
@@ -28,7 +28,7 @@ fn part(word: u64, low: u32, bits: u32) -> u64
 }
 
 // The word with that part replaced; a value too large for it loses its upper bits.
-fn with_part(word: u64, value: u64, low: u32, bits: u32) -> u64
+pub(crate) fn with_part(word: u64, value: u64, low: u32, bits: u32) -> u64
     requires { ⌜ low + bits ≤ 48 ⌝ }
     ensures { λ r. ⌜ r ≡ withPart low bits value word ⌝ }
 {
