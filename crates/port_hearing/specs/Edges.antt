@@ -1,11 +1,8 @@
--- 01, "The negotiation (LSM)": the edge event, and what a good page does in each state.
+-- 01, "The negotiation (LSM)", and its amendments: the edge event, and what a good page does in each state and round.
 use Prim.Native.Nat.{ℕ}
-use mathlib.Core.Bool.{Bool, true, not, _&&_, _||_}
-use Rattle.answers.specs.declared.Refusal.the-variants as refusal
-use Rattle.answers.specs.Choices.{if_then_else_, _=?_}
-use Rattle.answers.specs.Answers.{nothing, refused}
-use Rattle.page_word.specs.Fields.{fieldOf, withField, hasOtherSelector, isTie}
-use Rattle.page_word.specs.declared.fields.Field.the-variants as field
+use mathlib.Core.Bool.{Bool, not, _&&_}
+use Rattle.answers.specs.Choices.{if_then_else_}
+use Rattle.answers.specs.Answers.{nothing}
 use Rattle.line_mode.specs.declared.modes.LineMode.{LineMode}
 use Rattle.line_reader.specs.declared.endings.Ending.the-variants.{Good, Gap, Cut, Check}
 use Rattle.line_reader.specs.declared.endings.Heard.{Heard}
@@ -16,57 +13,20 @@ use Rattle.line_reader.specs.Reading.{edgeOf}
 use Rattle.port_state.specs.declared.State.{State}
 use Rattle.port_state.specs.declared.State.the-variants.{Off, Break, Ability, Ack, Complete, CheckLink, Up}
 use Rattle.port_state.specs.declared.Device.{Device}
-use Rattle.port_state.specs.PageRegisters.{registersOf}
-use Rattle.port_state.specs.Memory.{Due, due, isTalking, intoBreak}
-use Rattle.port_state.specs.Changes.{withState, withPartner, withFlags, withHeld, withCount, markHeard, withReader}
+use Rattle.port_state.specs.Memory.{Due, due, isTalking}
+use Rattle.port_state.specs.Changes.{markHeard, withReader}
+use Rattle.port_state.specs.Rounds.{isBase}
+use Rattle.port_hearing.specs.BasePages.{takes, basePageInAbility, basePageInAck}
+use Rattle.port_hearing.specs.NextPages.{nextPageInAbility, nextPageInAck}
 
--- "A good page not refused answers itself", and this is the device afterwards.
-abbrev pub takes : (word : ℕ) → Device → Due
-takes word d = due (saidOfEnding (Good word)) d
-
--- "hold it, mark "heard" at its last edge, to Ack"
-abbrev pub holds : (word reading : ℕ) → Device → Device
-holds word reading d = withState Ack (markHeard reading (withHeld word d))
-
--- "Ability: on a good page, S other than 1: Selector, stay. T equal to own: Tie, to Break. Else hold it, .."
+-- "At round base, Ability and Ack are as in 01"; "Ability, at round first or later, on a good page: ..", "Ack, at round first or later, on a good page: ..".
 unfoldable pub pageInAbility : (word reading : ℕ) → Device → Due
 pageInAbility word reading d =
-    if hasOtherSelector word then due (refused refusal.Selector) d
-    else if isTie (d .link .talk .own) word then due (refused refusal.Tie) (intoBreak reading d)
-    else takes word (holds word reading d)
+    if isBase (d .link .next .round) then basePageInAbility word reading d else nextPageInAbility word reading d
 
--- "set Remote fault if D13"
-abbrev pub faultAfter : (word : ℕ) (fault : Bool) → Bool
-faultAfter word fault = fieldOf field.RemoteFault word =? 1 || fault
-
--- "mark heard, load 7.517-7.519 with this page, set Page received, set Remote fault if D13, count 0, to Complete"
-abbrev pub intoComplete : (word reading : ℕ) → Device → Device
-intoComplete word reading d =
-    withState Complete
-    (withCount 0
-    (withFlags true (faultAfter word (d .lasting .flags .fault)) (withPartner (registersOf word) (markHeard reading d))))
-
--- What of a word is compared: the word with Ack and E 0. A number of 2^48 or more, held only by a record that no call has made, differs from every
--- page in its upper bits.
-unfoldable pub beyondAckAndEcho : (word : ℕ) → ℕ
-beyondAckAndEcho word = withField field.Ack 0 (withField field.EchoedNonce 0 word)
-
--- "differs from the held one beyond Ack and E"
-abbrev pub isChanged : (word held : ℕ) → Bool
-isChanged word held = not (beyondAckAndEcho word =? beyondAckAndEcho held)
-
--- "E not own T"
-abbrev pub echoesOther : (own word : ℕ) → Bool
-echoesOther own word = not (fieldOf field.EchoedNonce word =? fieldOf field.Nonce own)
-
--- "Ack: on a good page that differs from the held one beyond Ack and E: Changed, to Break. Ack 0: mark heard. Ack 1 and E not own T: Echo, to
--- Break. Else mark heard, load .."
 unfoldable pub pageInAck : (word reading : ℕ) → Device → Due
 pageInAck word reading d =
-    if isChanged word (d .link .talk .held) then due (refused refusal.Changed) (intoBreak reading d)
-    else if fieldOf field.Ack word =? 0 then takes word (markHeard reading d)
-    else if echoesOther (d .link .talk .own) word then due (refused refusal.Echo) (intoBreak reading d)
-    else takes word (intoComplete word reading d)
+    if isBase (d .link .next .round) then basePageInAck word reading d else nextPageInAck word reading d
 
 -- "Complete: a good page marks heard." In Off, Break, Check-link and Up no edge is read, so no page comes.
 unfoldable pub pageIn : State → (word reading : ℕ) → Device → Due
@@ -74,7 +34,7 @@ pageIn Off word reading d = due nothing d
 pageIn Break word reading d = due nothing d
 pageIn Ability word reading d = pageInAbility word reading d
 pageIn Ack word reading d = pageInAck word reading d
-pageIn Complete word reading d = takes word (markHeard reading d)
+pageIn Complete word reading d = takes word reading (markHeard reading d)
 pageIn CheckLink word reading d = due nothing d
 pageIn Up word reading d = due nothing d
 

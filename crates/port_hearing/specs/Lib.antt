@@ -1,1 +1,3 @@
+pub mod BasePages
+pub mod NextPages
 pub mod Edges

@@ -5,12 +5,12 @@ use mathlib.Core.Bool.{Bool, true, false, cond}
 use native.Mathlib.Omega.{arith}
 use lib.Dec.{eqb, ltb}
 use borrow.Author.Tests.{ltb-true, eqb-true, ne-eqb}
-use Rattle.port_state.specs.declared.page_registers.Third.{Third}
+use Rattle.page_word.specs.declared.thirds.Third.{Third}
 use Rattle.port_state.specs.declared.Flags.{Flags}
 use Rattle.port_state.specs.declared.Device.{Device}
 use Rattle.port_state.proofs.ClockAhead.{twin}
 use Rattle.port_registers.specs.declared.Bank.{Bank}
-use Rattle.port_registers.specs.declared.Bank.the-variants.{Advertised, Partner}
+use Rattle.port_registers.specs.declared.Bank.the-variants.{Advertised, Partner, Transmit, Heard}
 use Rattle.port_registers.specs.declared.Register.{Register}
 use Rattle.port_registers.specs.declared.Register.the-variants.{Control, Status, Part, Missing}
 use Rattle.port_registers.specs.Registers.{thirdAt, inBank, registerOf, bankOf}
@@ -30,12 +30,15 @@ isStatus Missing = false
 -- What holds of no register of a bank, and not of a missing one, does not hold of what stands in the banks.
 not-in-bank : (test : Register → Bool) (index : ℕ) (third : Third) → ((bank : Bank) → test (Part bank third) ≡ false) → test Missing ≡ false
     → test (inBank index third) ≡ false
-not-in-bank test index third part missing = by (eqb index 0) (eqb index 1)
+not-in-bank test index third part missing = by (eqb index 0) (eqb index 1) (eqb index 2) (eqb index 3)
   where
-    by : (a b : Bool) → test (cond a (Part Advertised third) (cond b (Part Partner third) Missing)) ≡ false
-    by true b = part Advertised
-    by false true = part Partner
-    by false false = missing
+    by : (a b c e : Bool)
+        → test (cond a (Part Advertised third) (cond b (Part Partner third) (cond c (Part Transmit third) (cond e (Part Heard third) Missing)))) ≡ false
+    by true b c e = part Advertised
+    by false true c e = part Partner
+    by false false true e = part Transmit
+    by false false false true = part Heard
+    by false false false false = missing
 
 -- The tests of a register's number, each as it comes out.
 module _ (n : ℕ) where
@@ -67,3 +70,5 @@ module _ (n : ℕ) where
 pub bank-ahead : (bank : Bank) (δ : ℕ) (g : Flags) (d : Device) → bankOf bank (twin δ g d) ≡ bankOf bank d
 bank-ahead Advertised δ g d = refl
 bank-ahead Partner δ g d = refl
+bank-ahead Transmit δ g d = refl
+bank-ahead Heard δ g d = refl

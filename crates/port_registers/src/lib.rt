@@ -1,30 +1,33 @@
-// The registers 7.512 to 7.519: reading and writing them.
+// The registers 7.512 to 7.525: reading and writing them.
 ghost use mathlib.Core.Path.{_≡_};
 ghost use Prim.Native.Nat.{_≤_, _/_, _%_, _^_};
 ghost use Rattle.answers.specs.Choices.{if_then_else_, _=?_};
 ghost use Rattle.answers.specs.Answers.{registerValue};
 ghost use Rattle.port_state.specs.Memory.{Meets, due, isOff, isUp};
-ghost use Rattle.port_registers.specs.Registers.{thirdAt, inBank, registerOf, bankOf, statusBits, statusValue, statusRead, readDue, entersBreakBy, commanded, bankWritten, writeDue};
+ghost use Rattle.port_registers.specs.Registers.{thirdAt, inBank, registerOf, bankOf, statusBits, statusValue, statusRead, readDue, entersBreakBy, commanded, loads, transmitWritten, bankWritten, writeDue};
 use answers::Answer;
 use answers::Refusal;
+use page_word::Third;
+use page_word::third_of;
+use page_word::with_third;
 use port_state::Device;
-use port_state::PageRegisters;
 use port_state::Reply;
 use port_state::State;
-use port_state::Third;
 use port_state::answered;
 use port_state::enter_break;
 use port_state::enter_off;
-use port_state::third_of;
 use port_state::with_advertised;
 use port_state::with_flags;
 use port_state::with_latch;
-use port_state::with_third;
+use port_state::with_loaded;
+use port_state::with_transmit;
 
 // Three registers that hold a page.
 pub enum Bank {
     Advertised,
     Partner,
+    Transmit,
+    Heard,
 }
 
 // The register that a number names.
@@ -64,6 +67,18 @@ fn in_bank(bank: u64, third: Third) -> Register
             third: third,
         };
     }
+    if bank == 2 {
+        return Register::Part {
+            bank: Bank::Transmit,
+            third: third,
+        };
+    }
+    if bank == 3 {
+        return Register::Part {
+            bank: Bank::Heard,
+            third: third,
+        };
+    }
     Register::Missing
 }
 
@@ -83,19 +98,15 @@ fn register_of(number: u64) -> Register
     in_bank(place / 3, third_at(place % 3))
 }
 
-// What a bank holds.
-fn bank_of(device: Device, bank: Bank) -> PageRegisters
+// The page that a bank holds.
+fn bank_of(device: Device, bank: Bank) -> u64
     ensures { λ r. ⌜ r ≡ bankOf bank device ⌝ }
 {
     match bank {
-        Bank::Advertised => {
-            let lasting = device.lasting;
-            lasting.advertised
-        }
-        Bank::Partner => {
-            let link = device.link;
-            link.partner
-        }
+        Bank::Advertised => device.lasting.advertised,
+        Bank::Partner => device.link.partner,
+        Bank::Transmit => device.link.next.transmit,
+        Bank::Heard => device.link.next.heard,
     }
 }
 
@@ -232,17 +243,37 @@ fn command(device: Device, value: u16, reading: u32) -> Device
     enter_off(device)
 }
 
+// Whether a write of this one of 520-522 loads a page: 520 comes last, so that the page is whole.
+fn loads(third: Third, loaded: bool) -> bool
+    ensures { λ r. ⌜ r ≡ loads third loaded ⌝ }
+{
+    match third {
+        Third::Low => true,
+        Third::Middle => loaded,
+        Third::High => loaded,
+    }
+}
+
+// The device with one of 520-522 written.
+fn write_transmit(device: Device, third: Third, value: u16) -> Device
+    ensures { λ r. ⌜ r ≡ transmitWritten third value device ⌝ }
+{
+    let written = with_transmit(device, with_third(device.link.next.transmit, third, value));
+    with_loaded(written, loads(third, device.link.next.loaded))
+}
+
 // The device with one register of a bank written, if that may be.
 fn write_bank(device: Device, bank: Bank, third: Third, value: u16) -> Device
     ensures { λ r. ⌜ r ≡ bankWritten bank third value device ⌝ }
 {
     match bank {
-        Bank::Advertised => {
-            let lasting = device.lasting;
-            let advertised = lasting.advertised;
-            with_advertised(device, with_third(advertised, third, value))
-        }
+        Bank::Advertised => with_advertised(
+            device,
+            with_third(device.lasting.advertised, third, value),
+        ),
         Bank::Partner => device,
+        Bank::Transmit => write_transmit(device, third, value),
+        Bank::Heard => device,
     }
 }
 

@@ -1,3 +1,3 @@
-pub mod PageRegisters
 pub mod Memory
 pub mod Changes
+pub mod Rounds

@@ -1,4 +1,4 @@
--- 01, "The negotiation (LSM)": what a device remembers, and what entering Break or Off leaves of it.
+-- 01, "The negotiation (LSM)", and its amendments: what a device remembers, and what entering Break or Off leaves of it.
 use Prim.Native.Nat.{ℕ}
 use mathlib.Core.Path.{_≡_}
 use mathlib.Core.Bool.{Bool, true, false}
@@ -8,11 +8,12 @@ pub use Rattle.port_state.specs.declared.State.{State}
 use Rattle.port_state.specs.declared.State.the-variants.{Off, Break, Ability, Ack, Complete, CheckLink, Up}
 pub use Rattle.port_state.specs.declared.Lasting.{Lasting}
 pub use Rattle.port_state.specs.declared.Talk.{Talk}
+pub use Rattle.port_state.specs.declared.NextPages.{NextPages}
+use Rattle.port_state.specs.declared.rounds.Round.the-variants.{Base}
 use Rattle.port_state.specs.declared.Outcome.the-variants.{NoneYet}
 pub use Rattle.port_state.specs.declared.Link.{Link}
 pub use Rattle.port_state.specs.declared.Device.{Device}
 use Rattle.port_state.specs.declared.Reply.{Reply}
-use Rattle.port_state.specs.PageRegisters.{noPage}
 
 -- What an event has to bring: what is said, and the device afterwards.
 pub record Due : Type 0 where
@@ -57,9 +58,16 @@ abbrev pub noTalk : (reading : ℕ) → Talk
 noTalk reading =
     record { own = 0; held = 0; count = 0; mark = reading; timer = reading; out = false; heard = false; latch = false }
 
--- Nothing of any link: 7.517-7.519 zero, nothing said, no outcome, a fresh reader.
+-- 01's amendments, request 7: "Entering Break or Off forgets all of these: registers zero, loaded mark clear, pages gone, round base, and the reading of the last good page is that of the
+-- entry into Break, in Off zero." A page that is gone is 0.
+abbrev pub noNextPages : (reading : ℕ) → NextPages
+noNextPages reading =
+    record { own = 0; held = 0; transmit = 0; heard = 0; good = reading; loaded = false; round = Base }
+
+-- Nothing of any link: 7.517-7.519 zero, no Next Pages, nothing said, no outcome, a fresh reader.
 abbrev pub noLink : (reading : ℕ) → Link
-noLink reading = record { partner = noPage; talk = noTalk reading; outcome = NoneYet; reader = Fresh }
+noLink reading =
+    record { partner = 0; next = noNextPages reading; talk = noTalk reading; outcome = NoneYet; reader = Fresh }
 
 -- A device that knows no link, with what outlives links.
 abbrev pub withoutLink : Lasting → State → (reading : ℕ) → Device
@@ -67,7 +75,7 @@ withoutLink lasting state reading = record { lasting = lasting; state = state; l
 
 -- "fresh (Off, all zero)"
 abbrev pub freshDevice : Device
-freshDevice = withoutLink (record { advertised = noPage; flags = record { received = false; fault = false } }) Off 0
+freshDevice = withoutLink (record { advertised = 0; flags = record { received = false; fault = false } }) Off 0
 
 -- "entering it forgets reader, own page, held page, page out, count, outcome and 7.517-7.519 (then zero), clears the link latch, starts the break
 -- timer. Entering Off forgets and clears the same, and starts no timer." 7.514-7.516, Page received and Remote fault are not among them.

@@ -1,27 +1,14 @@
 // The device with one thing changed. Every change of a device, but for forgetting a link, is one of these: a field of the record is spelled here and
 // in specs/Changes, and nowhere above.
 ghost use mathlib.Core.Path.{_≡_};
-ghost use Rattle.port_state.specs.Changes.{withLasting, withLink, withState, withAdvertised, withFlags, withPartner, withOutcome, withReader, withOwn, withHeld, withOut, withCount, withMark, withTimer, withLatch};
+ghost use Rattle.port_state.specs.Changes.{withLink, withState, withAdvertised, withFlags, withPartner, withOutcome, withReader, withOwn, withHeld, withOut, withCount, withMark, withTimer, withLatch, withNext, withOwnNext, withHeldNext, withTransmit, withLoaded, withHeardNext, withRound, withGood};
 use crate::Device;
-use crate::Flags;
-use crate::Lasting;
 use crate::Link;
+use crate::NextPages;
 use crate::Outcome;
 use crate::State;
-use crate::page_registers::PageRegisters;
+use crate::rounds::Round;
 use line_reader::Reader;
-
-fn with_lasting(device: Device, lasting: Lasting) -> Device
-    ensures { λ r. ⌜ r ≡ withLasting lasting device ⌝ }
-{
-    let kept = device.state;
-    let link = device.link;
-    Device {
-        lasting: lasting,
-        state: kept,
-        link: link,
-    }
-}
 
 fn with_link(device: Device, link: Link) -> Device
     ensures { λ r. ⌜ r ≡ withLink link device ⌝ }
@@ -48,16 +35,12 @@ pub fn with_state(device: Device, state: State) -> Device
 }
 
 // 7.514-516.
-pub fn with_advertised(device: Device, advertised: PageRegisters) -> Device
+pub fn with_advertised(device: Device, advertised: u64) -> Device
     ensures { λ r. ⌜ r ≡ withAdvertised advertised device ⌝ }
 {
-    let lasting = device.lasting;
-    let flags = lasting.flags;
-    let changed = Lasting {
-        advertised: advertised,
-        flags: flags,
-    };
-    with_lasting(device, changed)
+    let mut after = device;
+    after.lasting.advertised = advertised;
+    after
 }
 
 // Page received and Remote fault.
@@ -71,20 +54,12 @@ pub fn with_flags(device: Device, received: bool, fault: bool) -> Device
 }
 
 // 7.517-519.
-pub fn with_partner(device: Device, partner: PageRegisters) -> Device
+pub fn with_partner(device: Device, partner: u64) -> Device
     ensures { λ r. ⌜ r ≡ withPartner partner device ⌝ }
 {
-    let link = device.link;
-    let talk = link.talk;
-    let outcome = link.outcome;
-    let reader = link.reader;
-    let loaded = Link {
-        partner: partner,
-        talk: talk,
-        outcome: outcome,
-        reader: reader,
-    };
-    with_link(device, loaded)
+    let mut after = device;
+    after.link.partner = partner;
+    after
 }
 
 pub fn with_outcome(device: Device, outcome: Outcome) -> Device
@@ -92,10 +67,12 @@ pub fn with_outcome(device: Device, outcome: Outcome) -> Device
 {
     let link = device.link;
     let partner = link.partner;
+    let next = link.next;
     let talk = link.talk;
     let reader = link.reader;
     let resolved = Link {
         partner: partner,
+        next: next,
         talk: talk,
         outcome: outcome,
         reader: reader,
@@ -108,10 +85,12 @@ pub fn with_reader(device: Device, reader: Reader) -> Device
 {
     let link = device.link;
     let partner = link.partner;
+    let next = link.next;
     let talk = link.talk;
     let outcome = link.outcome;
     let moved = Link {
         partner: partner,
+        next: next,
         talk: talk,
         outcome: outcome,
         reader: reader,
@@ -119,7 +98,7 @@ pub fn with_reader(device: Device, reader: Reader) -> Device
     with_link(device, moved)
 }
 
-// The own page.
+// The own base page.
 pub fn with_own(device: Device, own: u64) -> Device
     ensures { λ r. ⌜ r ≡ withOwn own device ⌝ }
 {
@@ -128,7 +107,7 @@ pub fn with_own(device: Device, own: u64) -> Device
     after
 }
 
-// The held page.
+// The held base page.
 pub fn with_held(device: Device, held: u64) -> Device
     ensures { λ r. ⌜ r ≡ withHeld held device ⌝ }
 {
@@ -180,5 +159,94 @@ pub fn with_latch(device: Device, latch: bool) -> Device
 {
     let mut after = device;
     after.link.talk.latch = latch;
+    after
+}
+
+fn with_next(device: Device, next: NextPages) -> Device
+    ensures { λ r. ⌜ r ≡ withNext next device ⌝ }
+{
+    let link = device.link;
+    let partner = link.partner;
+    let talk = link.talk;
+    let outcome = link.outcome;
+    let reader = link.reader;
+    let changed = Link {
+        partner: partner,
+        next: next,
+        talk: talk,
+        outcome: outcome,
+        reader: reader,
+    };
+    with_link(device, changed)
+}
+
+// The own Next Page.
+pub fn with_own_next(device: Device, own: u64) -> Device
+    ensures { λ r. ⌜ r ≡ withOwnNext own device ⌝ }
+{
+    let mut after = device;
+    after.link.next.own = own;
+    after
+}
+
+// The held Next Page.
+pub fn with_held_next(device: Device, held: u64) -> Device
+    ensures { λ r. ⌜ r ≡ withHeldNext held device ⌝ }
+{
+    let mut after = device;
+    after.link.next.held = held;
+    after
+}
+
+// 7.520-522.
+pub fn with_transmit(device: Device, transmit: u64) -> Device
+    ensures { λ r. ⌜ r ≡ withTransmit transmit device ⌝ }
+{
+    let mut after = device;
+    after.link.next.transmit = transmit;
+    after
+}
+
+// Whether an own Next Page is loaded.
+pub fn with_loaded(device: Device, loaded: bool) -> Device
+    ensures { λ r. ⌜ r ≡ withLoaded loaded device ⌝ }
+{
+    let mut after = device;
+    after.link.next.loaded = loaded;
+    after
+}
+
+// 7.523-525.
+pub fn with_heard_next(device: Device, heard: u64) -> Device
+    ensures { λ r. ⌜ r ≡ withHeardNext heard device ⌝ }
+{
+    let mut after = device;
+    after.link.next.heard = heard;
+    after
+}
+
+pub fn with_round(device: Device, round: Round) -> Device
+    ensures { λ r. ⌜ r ≡ withRound round device ⌝ }
+{
+    let link = device.link;
+    let next = link.next;
+    let turned = NextPages {
+        own: next.own,
+        held: next.held,
+        transmit: next.transmit,
+        heard: next.heard,
+        good: next.good,
+        loaded: next.loaded,
+        round: round,
+    };
+    with_next(device, turned)
+}
+
+// The reading of the last good page.
+pub fn with_good(device: Device, reading: u32) -> Device
+    ensures { λ r. ⌜ r ≡ withGood reading device ⌝ }
+{
+    let mut after = device;
+    after.link.next.good = reading;
     after
 }

@@ -1,34 +1,39 @@
 // What a device remembers, and what is left of it where it goes into Break or Off.
 ghost use mathlib.Core.Path.{_≡_};
 ghost use Rattle.answers.specs.Answers.{said};
-ghost use Rattle.port_state.specs.Memory.{Meets, due, noTalk, noLink, withoutLink, freshDevice, intoBreak, intoOff};
+ghost use Rattle.port_state.specs.Memory.{Meets, due, noTalk, noNextPages, noLink, withoutLink, freshDevice, intoBreak, intoOff};
 
 mod changes;
-mod page_registers;
+mod rounds;
 
 use answers::Answer;
 pub use changes::with_advertised;
 pub use changes::with_count;
 pub use changes::with_flags;
+pub use changes::with_good;
+pub use changes::with_heard_next;
 pub use changes::with_held;
+pub use changes::with_held_next;
 pub use changes::with_latch;
+pub use changes::with_loaded;
 pub use changes::with_mark;
 pub use changes::with_out;
 pub use changes::with_outcome;
 pub use changes::with_own;
+pub use changes::with_own_next;
 pub use changes::with_partner;
 pub use changes::with_reader;
+pub use changes::with_round;
 pub use changes::with_state;
 pub use changes::with_timer;
+pub use changes::with_transmit;
 use line_reader::Reader;
-pub use page_registers::PageRegisters;
-pub use page_registers::Third;
-use page_registers::no_page;
-pub use page_registers::registers_of;
-pub use page_registers::third_of;
-pub use page_registers::with_third;
-pub use page_registers::word_of;
 use page_resolve::Resolution;
+pub use rounds::Round;
+pub use rounds::held_in_round;
+pub use rounds::is_base;
+pub use rounds::is_first;
+pub use rounds::own_in_round;
 
 // The states of the negotiation.
 pub enum State {
@@ -49,18 +54,18 @@ pub struct Flags {
 
 // What outlives a link: 7.514-516, and these two bits.
 pub struct Lasting {
-    pub advertised: PageRegisters,
+    pub advertised: u64,
     pub flags: Flags,
 }
 
-// What is said and heard on one link: the own page, the held page, whether a page is out, how many were sent in Complete; the mark, whether
+// What is said and heard on one link: the own base page, the held base page, whether a page is out, how many were sent in Complete; the mark, whether
 // it is "heard" or "waiting", and its reading; the reading at which the state's timer started; the link latch of 7.513.
 pub struct Talk {
     pub own: u64,
     pub held: u64,
-    pub count: u32,
     pub mark: u32,
     pub timer: u32,
+    pub count: u32,
     pub out: bool,
     pub heard: bool,
     pub latch: bool,
@@ -72,19 +77,33 @@ pub enum Outcome {
     Resolved(Resolution),
 }
 
-// What belongs to one link: 7.517-519, what is said and heard, the outcome, the reader.
+// What Next Pages add to a link: 7.520-522, the own Next Page as the host writes it, and whether one is loaded; 7.523-525, the heard one; the own and
+// the held Next Page, the round, and the reading of the last good page.
+pub struct NextPages {
+    pub good: u32,
+    pub loaded: bool,
+    pub round: Round,
+    pub own: u64,
+    pub held: u64,
+    pub transmit: u64,
+    pub heard: u64,
+}
+
+// What belongs to one link: 7.517-519, Next Pages, what is said and heard, the outcome, the reader.
 pub struct Link {
-    pub partner: PageRegisters,
+    pub partner: u64,
+    pub next: NextPages,
     pub talk: Talk,
     pub outcome: Outcome,
     pub reader: Reader,
 }
 
-// A device: what outlives a link, the state, and what belongs to the link.
+// A device: what outlives a link, the state, and what belongs to the link. The order of fields, here, in Talk and in NextPages, is the one of those tried with which
+// events cost least (bench/README.md).
 pub struct Device {
+    pub link: Link,
     pub lasting: Lasting,
     pub state: State,
-    pub link: Link,
 }
 
 // What an event brings.
@@ -119,12 +138,28 @@ fn no_talk(reading: u32) -> Talk
     }
 }
 
+// No Next Page loaded, said or heard, the last good page's reading at one reading.
+fn no_next_pages(reading: u32) -> NextPages
+    ensures { λ r. ⌜ r ≡ noNextPages reading ⌝ }
+{
+    NextPages {
+        own: 0,
+        held: 0,
+        transmit: 0,
+        heard: 0,
+        good: reading,
+        loaded: false,
+        round: Round::Base,
+    }
+}
+
 // Nothing of any link. All that a device forgets is forgotten by putting this in its place, so nothing can be left over.
 fn no_link(reading: u32) -> Link
     ensures { λ r. ⌜ r ≡ noLink reading ⌝ }
 {
     Link {
-        partner: no_page(),
+        partner: 0,
+        next: no_next_pages(reading),
         talk: no_talk(reading),
         outcome: Outcome::NoneYet,
         reader: Reader::Fresh,
@@ -152,7 +187,7 @@ impl Device {
             fault: false,
         };
         let unwritten = Lasting {
-            advertised: no_page(),
+            advertised: 0,
             flags: flags,
         };
         without_link(unwritten, State::Off, 0)

@@ -6,12 +6,13 @@ use line_mode::time_between;
 use page_resolve::Resolution;
 use port_state::Outcome;
 
-// The line mode's numbers, and those of the break timer, silent and wait, in ns.
+// The line mode's numbers, and those of the break timer, silent, wait and lost, in ns.
 pub struct Profile {
     pub mode: LineMode,
     pub breaking: u32,
     pub silent: u32,
     pub wait: u32,
+    pub lost: u32,
 }
 
 // Low speed, the only one so far.
@@ -23,6 +24,7 @@ pub(crate) fn low_speed() -> Profile
         breaking: 8000000,
         silent: 33000,
         wait: 350000,
+        lost: 4000000,
     }
 }
 

@@ -2,8 +2,8 @@
 ghost use mathlib.Core.Path.{_≡_};
 ghost use Rattle.port_state.specs.declared.State.the-variants.{Break, CheckLink};
 ghost use Rattle.port_state.specs.Memory.{Meets};
-ghost use Rattle.port_timing.specs.Ticks.{lowSpeed, leavesBreak, holdsBack, mayOrder, orders, tickIn, tickDue};
-use crate::own_pages::echoing_page;
+ghost use Rattle.port_timing.specs.Ticks.{lowSpeed, leavesBreak, holdsBack, mayOrder, orders, isLost, talks, tickIn, tickDue};
+use crate::own_pages::acknowledging;
 use crate::own_pages::own_page;
 use crate::profile::Profile;
 use crate::profile::inhibit_of;
@@ -17,20 +17,20 @@ use port_state::Reply;
 use port_state::State;
 use port_state::answered;
 use port_state::enter_break;
+use port_state::is_base;
+use port_state::own_in_round;
 use port_state::with_mark;
 use port_state::with_out;
 use port_state::with_own;
 use port_state::with_reader;
 use port_state::with_state;
-use port_state::word_of;
 
 // The break is over: the own page is made, and the device goes to Ability.
 fn leave_break(device: Device, reading: u32, draw: u64) -> Device
     ensures { λ r. ⌜ r ≡ leavesBreak reading draw device ⌝ }
 {
-    let lasting = device.lasting;
-    let advertised = lasting.advertised;
-    let owning = with_own(device, own_page(word_of(advertised), draw));
+    let own = own_page(device.lasting.advertised, draw, device.link.next.loaded);
+    let owning = with_own(device, own);
     let waiting = with_mark(owning, false, reading);
     with_state(with_reader(waiting, Reader::Fresh), State::Ability)
 }
@@ -74,6 +74,32 @@ fn order(profile: Profile, device: Device, word: u64, reading: u32) -> Reply
     answered(Answer::Nothing, device)
 }
 
+// Whether the partner has fallen silent while Next Pages are exchanged.
+fn is_lost(profile: Profile, device: Device, reading: u32) -> bool
+    ensures { λ r. ⌜ r ≡ isLost profile reading (device .link) ⌝ }
+{
+    let link = device.link;
+    let next = link.next;
+    let round = next.round;
+    if is_base(round) {
+        return false;
+    }
+    if device.link.talk.out {
+        return false;
+    }
+    run_out(profile.lost, device.link.next.good, reading)
+}
+
+// A tick in Ability, Ack or Complete: the link is given up, or the page ordered if it may be.
+fn talk(profile: Profile, device: Device, word: u64, reading: u32) -> Reply
+    ensures { λ r. ⌜ Meets r (talks profile reading word device) ⌝ }
+{
+    if is_lost(profile, device, reading) {
+        return answered(Answer::Nothing, enter_break(device, reading));
+    }
+    order(profile, device, word, reading)
+}
+
 // A tick in Break.
 fn tick_in_break(profile: Profile, device: Device, reading: u32, draw: u64) -> Reply
     ensures { λ r. ⌜ Meets r (tickIn Break profile reading draw device) ⌝ }
@@ -101,14 +127,13 @@ fn tick_by(profile: Profile, device: Device, reading: u32, draw: u64) -> Reply
     ensures { λ r. ⌜ Meets r (tickDue profile reading draw device) ⌝ }
 {
     let state = device.state;
-    let own = device.link.talk.own;
-    let held = device.link.talk.held;
+    let link = device.link;
     match state {
         State::Off => answered(Answer::Nothing, device),
         State::Break => tick_in_break(profile, device, reading, draw),
-        State::Ability => order(profile, device, own, reading),
-        State::Ack => order(profile, device, echoing_page(own, held), reading),
-        State::Complete => order(profile, device, echoing_page(own, held), reading),
+        State::Ability => talk(profile, device, own_in_round(link), reading),
+        State::Ack => talk(profile, device, acknowledging(link), reading),
+        State::Complete => talk(profile, device, acknowledging(link), reading),
         State::CheckLink => tick_in_check_link(profile, device, reading, draw),
         State::Up => answered(Answer::Nothing, device),
     }

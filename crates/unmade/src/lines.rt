@@ -37,12 +37,14 @@ fn say_state(state: State) {
     }
 }
 
-// The own page and the held one, in hex.
-fn say_pages(own: u64, held: u64) {
+// The own base page, the held one and the own Next Page, in hex.
+fn say_pages(own: u64, held: u64, next: u64) {
     say(b", own ");
     io::print_hex(STDOUT_FILENO, own, 12);
     say(b", held ");
     io::print_hex(STDOUT_FILENO, held, 12);
+    say(b", own next ");
+    io::print_hex(STDOUT_FILENO, next, 12);
 }
 
 // Whether a page is out, and the count.
@@ -69,7 +71,8 @@ fn say_reader(reader: Reader) {
 // What is left of the link.
 fn say_link(link: Link) {
     let talk = link.talk;
-    say_pages(talk.own, talk.held);
+    let next = link.next;
+    say_pages(talk.own, talk.held, next.own);
     say_talk(talk.out, talk.count);
     let reader = link.reader;
     say_reader(reader);

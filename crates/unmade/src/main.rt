@@ -9,13 +9,16 @@ use lines::tell;
 use page_resolve::Resolution;
 use port_state::Device;
 use port_state::Outcome;
+use port_state::Round;
 use port_state::State;
 use port_state::with_count;
 use port_state::with_held;
 use port_state::with_out;
 use port_state::with_outcome;
 use port_state::with_own;
+use port_state::with_own_next;
 use port_state::with_reader;
+use port_state::with_round;
 use port_state::with_state;
 use port_step::Event;
 
@@ -23,6 +26,17 @@ use port_step::Event;
 fn sent_in_complete(own: u64, held: u64, count: u32) {
     let paged = with_held(with_own(Device::fresh(), own), held);
     let out = with_out(with_count(paged, count), true);
+    tell(
+        with_state(out, State::Complete),
+        Event::Sent { reading: 1000 },
+    );
+}
+
+// The same at round first, where no device is in Complete: the page is sent.
+fn sent_at_round_first() {
+    let paged = with_held(with_own(Device::fresh(), 0x850001), 0x898001);
+    let first = with_round(with_own_next(paged, 0x2801), Round::First);
+    let out = with_out(with_count(first, 2), true);
     tell(
         with_state(out, State::Complete),
         Event::Sent { reading: 1000 },
@@ -53,7 +67,7 @@ fn edge_at_156(reading: u32) {
     );
 }
 
-// Pages that no device holds in Complete: wider than 48 bits, with selector 0, with equal nonces. Then a count that none has there before a page is sent.
+// Pages that no device holds in Complete: wider than 48 bits, with selector 0, with equal nonces. Then a count and a round that none has there.
 fn tell_complete() {
     say(b"complete, own page 2^48, count 2; sent at 1000: ");
     sent_in_complete(page_word::WIDE, 0xA90001, 2);
@@ -61,8 +75,10 @@ fn tell_complete() {
     sent_in_complete(0x850000, 0xA90001, 2);
     say(b"complete, equal nonces, count 2; sent at 1000: ");
     sent_in_complete(0x850001, 0xA50001, 2);
-    say(b"complete, count 3; sent at 1000: ");
-    sent_in_complete(0x850001, 0xA90001, 3);
+    say(b"complete, count 4; sent at 1000: ");
+    sent_in_complete(0x850001, 0xA90001, 4);
+    say(b"complete, round first, count 2; sent at 1000: ");
+    sent_at_round_first();
 }
 
 fn tell_up() {

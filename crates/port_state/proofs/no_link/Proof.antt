@@ -7,4 +7,4 @@ no-link-spec =
     tie.close
     (tie.spec
     (λ c κs. search needs) (λ c κs. search needs)
-    (λ c. simp (c .no-talk .ensures, c .before .no-page .ensures)))
+    (λ c. simp (c .no-talk .ensures, c .before .no-next-pages .ensures)))

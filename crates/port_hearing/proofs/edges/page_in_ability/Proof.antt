@@ -4,13 +4,9 @@ use Rattle.port_hearing.specs.Edges.{pageInAbility}
 use Rattle.port_hearing.proofs.edges.page_in_ability.Statement.{statement}
 use Rattle.port_hearing.proofs.edges.page_in_ability.Tie as tie
 
-returns : tie.Need-returns
-unfolding pageInAbility
-returns c = as-due (c .answered .ensures) (simp (c .before .if1 .taken, ← c .before .before .has-other-selector .ensures))
-
 returns-2 : tie.Need-returns-2
 unfolding pageInAbility
-returns-2 c = as-due (c .answered2 .ensures) (simp (c .before .enter-break .ensures, c .before .before .if2 .taken, ← c .before .before .before .is-tie .ensures, c .before .before .before .before .if1 .left, ← c .before .before .before .before .before .has-other-selector .ensures))
+returns-2 c = as-due (c .next-page-in-ability .ensures) (simp (c .before .if1 .left, ← c .before .before .is-base .ensures))
 
 pub page-in-ability-spec : {M : Type 1} → statement M
 unfolding pageInAbility
@@ -18,8 +14,6 @@ page-in-ability-spec =
     tie.close
     (tie.spec
     (λ c κs. search needs) (λ c κs. search needs)
-    returns
-    (λ c κs. search needs) (λ c κs. search needs) (λ c κs. search needs)
-    returns-2
-    (λ c κs. search needs) (λ c κs. search needs)
-    (λ c. as-due (c .answered3 .ensures) (simp (c .before .hold .ensures, c .before .before .if2 .left, ← c .before .before .before .is-tie .ensures, c .before .before .before .before .if1 .left, ← c .before .before .before .before .before .has-other-selector .ensures))))
+    (λ c. as-due (c .base-page-in-ability .ensures) (simp (c .before .if1 .taken, ← c .before .before .is-base .ensures)))
+    (λ c κs. search needs)
+    returns-2)

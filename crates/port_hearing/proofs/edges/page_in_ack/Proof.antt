@@ -1,24 +1,19 @@
 use borrow.Author.Needs.{needs}
 use Rattle.port_state.proofs.Dues.{as-due}
-use borrow.Author.Tests.{eq-eqb, ne-eqb}
 use Rattle.port_hearing.specs.Edges.{pageInAck}
 use Rattle.port_hearing.proofs.edges.page_in_ack.Statement.{statement}
 use Rattle.port_hearing.proofs.edges.page_in_ack.Tie as tie
 
-returns : tie.Need-returns
+returns-2 : tie.Need-returns-2
 unfolding pageInAck
-returns c = as-due (c .answered .ensures) (simp (c .before .enter-break .ensures, c .before .before .if1 .taken, ← c .before .before .before .is-changed .ensures))
+returns-2 c = as-due (c .next-page-in-ack .ensures) (simp (c .before .if1 .left, ← c .before .before .is-base .ensures))
 
 pub page-in-ack-spec : {M : Type 1} → statement M
 unfolding pageInAck
 page-in-ack-spec =
     tie.close
     (tie.spec
-    (λ c κs. search needs) (λ c κs. search needs) (λ c κs. search needs)
-    returns
-    (λ c κs. search needs) (λ c κs. search needs) (λ c κs. search needs)
-    (λ c. as-due (c .answered2 .ensures) (simp (c .before .with-mark .ensures, eq-eqb _ _ (c .before .before .if2 .taken), ← c .before .before .before .get .ensures, c .before .before .before .before .if1 .left, ← c .before .before .before .before .before .is-changed .ensures)))
-    (λ c κs. search needs) (λ c κs. search needs) (λ c κs. search needs)
-    (λ c. as-due (c .answered3 .ensures) (simp (c .before .enter-break2 .ensures, c .before .before .if3 .taken, ← c .before .before .before .echoes-other .ensures, ne-eqb _ _ (c .before .before .before .before .if2 .left), ← c .before .before .before .before .before .get .ensures, c .before .before .before .before .before .before .if1 .left, ← c .before .before .before .before .before .before .before .is-changed .ensures)))
     (λ c κs. search needs) (λ c κs. search needs)
-    (λ c. as-due (c .answered4 .ensures) (simp (c .before .complete .ensures, c .before .before .if3 .left, ← c .before .before .before .echoes-other .ensures, ne-eqb _ _ (c .before .before .before .before .if2 .left), ← c .before .before .before .before .before .get .ensures, c .before .before .before .before .before .before .if1 .left, ← c .before .before .before .before .before .before .before .is-changed .ensures))))
+    (λ c. as-due (c .base-page-in-ack .ensures) (simp (c .before .if1 .taken, ← c .before .before .is-base .ensures)))
+    (λ c κs. search needs)
+    returns-2)

@@ -1,9 +1,9 @@
-use borrow.Author.Needs.{needs}
+use mathlib.Core.Path.{refl}
 use Rattle.port_state.proofs.changes.with_partner.Statement.{statement}
 use Rattle.port_state.proofs.changes.with_partner.Tie as tie
 
 returns : tie.Need-returns
-returns c = c .with-link .ensures
+returns c = refl
 
 pub with-partner-spec : {M : Type 1} → statement M
-with-partner-spec = tie.close (tie.spec (λ c κs. search needs) returns)
+with-partner-spec = tie.close (tie.spec returns)

@@ -4,9 +4,17 @@ use Rattle.port_step.specs.Steps.{stepOver}
 use Rattle.port_step.proofs.events.step.Statement.{statement}
 use Rattle.port_step.proofs.events.step.Tie as tie
 
+returns : tie.Need-returns
+unfolding stepOver
+returns c = as-due (c .edge .ensures) (simp (c .before .before .event .given .1))
+
 returns-2 : tie.Need-returns-2
 unfolding stepOver
 returns-2 c = as-due (c .tick .ensures) (simp (c .before .before .event2 .given .1))
+
+returns-3 : tie.Need-returns-3
+unfolding stepOver
+returns-3 c = as-due (c .sent .ensures) (simp (c .before .before .event3 .given .1))
 
 returns-6 : tie.Need-returns-6
 unfolding stepOver
@@ -18,9 +26,9 @@ step-spec =
     tie.close
     (tie.spec
     (λ c. search needs) (λ c κs. search needs) (λ c. search needs) (λ c κs. search needs) (λ c. search needs) (λ c κs. search needs) (λ c. search needs) (λ c κs. search needs) (λ c. search needs) (λ c κs. search needs) (λ c. search needs) (λ c κs. search needs) (λ c. search needs) (λ c κs. search needs)
-    (λ c. as-due (c .edge .ensures) (simp (c .before .before .event .given .1)))
+    returns
     returns-2
-    (λ c. as-due (c .sent .ensures) (simp (c .before .before .event3 .given .1)))
+    returns-3
     (λ c. as-due (c .report .ensures) (simp (c .before .before .event4 .given .1)))
     (λ c. as-due (c .read .ensures) (simp (c .before .before .event5 .given .1)))
     returns-6
