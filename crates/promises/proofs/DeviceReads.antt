@@ -29,7 +29,11 @@ use Rattle.port_state.specs.declared.State.the-variants.{Off, Break, Ability, A
 use Rattle.port_state.specs.declared.Device.{Device}
 use Rattle.port_state.specs.Memory.{Due, due, isTalking, freshDevice}
 use Rattle.port_state.specs.Changes.{withState, withReader}
-use Rattle.port_hearing.specs.Edges.{isChanged, echoesOther, pageInAbility, pageInAck, pageIn, hears, takesEdges, edgeDue}
+use Rattle.port_state.specs.Rounds.{isBase, heldInRound}
+use Rattle.page_word.specs.NextPages.{sameToggle}
+use Rattle.port_hearing.specs.BasePages.{isChanged, echoesOther, basePageInAbility, basePageInAck}
+use Rattle.port_hearing.specs.NextPages.{isChangedNext, repeatsHeld, nextPageInAbility, nextPageInAck}
+use Rattle.port_hearing.specs.Edges.{pageInAbility, pageInAck, pageIn, hears, takesEdges, edgeDue}
 use Rattle.port_step.specs.declared.events.Event.{Event}
 use Rattle.port_step.specs.declared.events.Event.the-variants.{Edge, Tick, Sent, Report, Read, Write, Unnamed}
 use Rattle.port_step.specs.Steps.{stepOver, stepDue, saysTo, afterAll}
@@ -63,13 +67,17 @@ alike = record { same = refl }
 
 -- What a page answers hangs on neither the reader nor the reading;
 page-says : (s : State) (word x : ℕ) (r : Reader) (d : Device) → Alike (pageIn s word x (withReader r (withState s d))) (pageIn s word 0 (withState s d))
-unfolding pageIn pageInAbility pageInAck
+unfolding pageIn pageInAbility basePageInAbility nextPageInAbility pageInAck basePageInAck nextPageInAck repeatsHeld
 page-says Off word x r d = alike
 page-says Break word x r d = alike
-page-says Ability word x r d = alike-if (hasOtherSelector word) alike (alike-if (isTie (d .link .talk .own) word) alike alike)
+page-says Ability word x r d =
+    alike-if (isBase (d .link .next .round)) (alike-if (hasOtherSelector word) alike (alike-if (isTie (d .link .talk .own) word) alike alike))
+    (alike-if (repeatsHeld word (d .link)) alike (alike-if (sameToggle word (heldInRound (d .link))) alike alike))
 page-says Ack word x r d =
-    alike-if (isChanged word (d .link .talk .held)) alike
-    (alike-if (eqb (fieldOf field.Ack word) 0) alike (alike-if (echoesOther (d .link .talk .own) word) alike alike))
+    alike-if (isBase (d .link .next .round))
+    (alike-if (isChanged word (d .link .talk .held)) alike
+    (alike-if (eqb (fieldOf field.Ack word) 0) alike (alike-if (echoesOther (d .link .talk .own) word) alike alike)))
+    (alike-if (isChangedNext word (heldInRound (d .link))) alike (alike-if (eqb (fieldOf field.Ack word) 0) alike alike))
 page-says Complete word x r d = alike
 page-says CheckLink word x r d = alike
 page-says Up word x r d = alike
@@ -82,15 +90,21 @@ refusing : {word : ℕ} {d : Device} (s : Said) → refusesPage s ≡ true → O
 refusing {word} s h = record { it-is = ap (λ (t : Bool). t || (eqb (s .kind) 0x80 && eqb (s .value) word)) h }
 
 of-page : (s : State) (word : ℕ) (d : Device) → isTalking s ≡ true → OfPage word (pageIn s word 0 (withState s d))
-unfolding pageIn pageInAbility pageInAck
+unfolding pageIn pageInAbility basePageInAbility nextPageInAbility pageInAck basePageInAck nextPageInAck
 of-page Off word d h = absurd (false≢true h)
 of-page Break word d h = absurd (false≢true h)
 of-page Ability word d h =
-    of-if (hasOtherSelector word) (refusing (refused refusal.Selector) refl)
-    (of-if (isTie (d .link .talk .own) word) (refusing (refused refusal.Tie) refl) (itself word _))
+    of-if (isBase (d .link .next .round))
+    (of-if (hasOtherSelector word) (refusing (refused refusal.Selector) refl)
+    (of-if (isTie (d .link .talk .own) word) (refusing (refused refusal.Tie) refl) (itself word _)))
+    (of-if (repeatsHeld word (d .link)) (itself word _)
+    (of-if (sameToggle word (heldInRound (d .link))) (refusing (refused refusal.Toggle) refl) (itself word _)))
 of-page Ack word d h =
-    of-if (isChanged word (d .link .talk .held)) (refusing (refused refusal.Changed) refl)
-    (of-if (eqb (fieldOf field.Ack word) 0) (itself word _) (of-if (echoesOther (d .link .talk .own) word) (refusing (refused refusal.Echo) refl) (itself word _)))
+    of-if (isBase (d .link .next .round))
+    (of-if (isChanged word (d .link .talk .held)) (refusing (refused refusal.Changed) refl)
+    (of-if (eqb (fieldOf field.Ack word) 0) (itself word _) (of-if (echoesOther (d .link .talk .own) word) (refusing (refused refusal.Echo) refl) (itself word _))))
+    (of-if (isChangedNext word (heldInRound (d .link))) (refusing (refused refusal.Changed) refl)
+    (of-if (eqb (fieldOf field.Ack word) 0) (itself word _) (itself word _)))
 of-page Complete word d h = itself word _
 of-page CheckLink word d h = absurd (false≢true h)
 of-page Up word d h = absurd (false≢true h)
@@ -133,7 +147,7 @@ check-heard x d = refl
 
 -- The kinds of answer that a page has, and no event but an edge.
 abbrev pageKinds : List ℕ
-pageKinds = 4 ∷ 5 ∷ 6 ∷ 7 ∷ 0x80 ∷ []
+pageKinds = 4 ∷ 5 ∷ 6 ∷ 7 ∷ 17 ∷ 0x80 ∷ []
 
 abbrev noneAmong : List ℕ → List ℕ → Bool
 noneAmong [] list = true
@@ -149,15 +163,16 @@ not-in-both k (n ∷ kinds) list apart h l =
         false≢true (sym (ap not (ap (λ (j : ℕ). among j list) (sym (eqb-true k n e)) ∙ l)) ∙ and-left (not (among n list)) (noneAmong kinds list) apart)
     by false e h later = later h
 
-refused-among : (k : ℕ) → among k (4 ∷ 5 ∷ 6 ∷ 7 ∷ []) ≡ true → among k pageKinds ≡ true
-refused-among k h = by (eqb k 4) (eqb k 5) (eqb k 6) (eqb k 7) (eqb k 0x80) h
+refused-among : (k : ℕ) → among k (4 ∷ 5 ∷ 6 ∷ 7 ∷ 17 ∷ []) ≡ true → among k pageKinds ≡ true
+refused-among k h = by (eqb k 4) (eqb k 5) (eqb k 6) (eqb k 7) (eqb k 17) (eqb k 0x80) h
   where
-    by : (a b c d e : Bool) → (a || (b || (c || (d || false)))) ≡ true → (a || (b || (c || (d || (e || false))))) ≡ true
-    by true b c d e h = refl
-    by false true c d e h = refl
-    by false false true d e h = refl
-    by false false false true e h = refl
-    by false false false false e h = absurd (false≢true h)
+    by : (a b c d e f : Bool) → (a || (b || (c || (d || (e || false))))) ≡ true → (a || (b || (c || (d || (e || (f || false)))))) ≡ true
+    by true b c d e f h = refl
+    by false true c d e f h = refl
+    by false false true d e f h = refl
+    by false false false true e f h = refl
+    by false false false false true f h = refl
+    by false false false false false f h = absurd (false≢true h)
 
 -- An edge with such an answer is taken, and a page is heard at it.
 pub record HearsPage (d : Device) (x : ℕ) : Type 0 where
@@ -215,10 +230,10 @@ ends-page past x h =
           };
     }
 
-other : (past : List Event) (e : Event) → noneAmong pageKinds (13 ∷ kindsFor e) ≡ true → among (stepDue e (after past) .says .kind) pageKinds ≡ true → ⊥
+other : (past : List Event) (e : Event) → noneAmong pageKinds (kindsFor e) ≡ true → among (stepDue e (after past) .says .kind) pageKinds ≡ true → ⊥
 other past e apart h =
-    not-in-both (stepDue e (after past) .says .kind) pageKinds (13 ∷ kindsFor e) apart h
-    (step-brings false e (λ s. absurd (false≢true s)) (after past) (all-sound false past (λ s. absurd (false≢true s)) freshDevice (fresh-sound false)) .kind)
+    not-in-both (stepDue e (after past) .says .kind) pageKinds (kindsFor e) apart h
+    (step-brings e (after past) (all-sound past freshDevice fresh-sound) .kind)
 
 only-edges : (past : List Event) (e : Event) → among (stepDue e (after past) .says .kind) pageKinds ≡ true
     → (x : ℕ) × (e ≡ Edge x) × (HearsPage (after past) x)
@@ -315,7 +330,7 @@ module _ (past : List Event) (x w : ℕ) where
   goes-on y rest u = goes-on-with past x (u .takes) nothing (inner y rest u)
 
 -- Events between the edges of a page.
-between : (past : List Event) (e : Event) → isTalking (after past .state) ≡ true → comesBetween e ≡ true
+between : (past : List Event) (e : Event) → isTalking (after past .state) ≡ true → comesBetween e (after past) ≡ true
     → (after (past ++ (e ∷ [])) .state ≡ after past .state) × (taken (past ++ (e ∷ [])) ≡ taken past)
 between past e talks passing =
     let kept = step-stays e (after past) talks passing in (

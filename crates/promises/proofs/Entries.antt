@@ -19,16 +19,20 @@ use Rattle.port_state.specs.declared.Device.{Device}
 use Rattle.port_state.specs.Memory.{isTalking, isBreak, Due, due, isOff, intoBreak, intoOff}
 use Rattle.port_state.specs.Changes.{withState, withReader}
 use Rattle.page_word.specs.Word.{hasBit}
-use Rattle.port_registers.specs.declared.Bank.the-variants.{Advertised, Partner}
+use Rattle.port_registers.specs.declared.Bank.the-variants as bank
 use Rattle.port_registers.specs.declared.Register.{Register}
 use Rattle.port_registers.specs.declared.Register.the-variants.{Control, Status, Part, Missing}
 use Rattle.port_registers.specs.Registers.{registerOf, readAt, readDue, commanded, writeAt, writeDue}
 use Rattle.port_registers.proofs.RegisterNumbers.{isControl, control-number}
 use Rattle.line_mode.specs.declared.modes.LineMode.{LineMode}
 use Rattle.port_timing.specs.declared.profile.Profile.{Profile}
-use Rattle.port_timing.specs.Ticks.{runOut, inhibitOf, mayOrder, orders, tickIn, tickDue}
-use Rattle.port_hearing.specs.Edges.{isChanged, echoesOther, pageInAbility, pageInAck, pageIn, hears, edgeDue}
-use Rattle.port_timing.specs.Sending.{counted, sentIn, sentDue, hasRate, reportIn, reportDue}
+use Rattle.port_timing.specs.Ticks.{runOut, inhibitOf, mayOrder, orders, isLost, talks, tickIn, tickDue}
+use Rattle.port_state.specs.Rounds.{isBase, ownInRound, heldInRound}
+use Rattle.page_word.specs.NextPages.{setsNextPage, sameToggle}
+use Rattle.port_hearing.specs.BasePages.{isChanged, echoesOther, basePageInAbility, basePageInAck}
+use Rattle.port_hearing.specs.NextPages.{isChangedNext, repeatsHeld, nextPageInAbility, nextPageInAck}
+use Rattle.port_hearing.specs.Edges.{pageInAbility, pageInAck, pageIn, hears, edgeDue}
+use Rattle.port_timing.specs.Sending.{nextOrNull, decided, counted, sentIn, sentDue, hasRate, reportIn, reportDue}
 use Rattle.port_step.specs.declared.events.Event.{Event}
 use Rattle.port_step.specs.declared.events.Event.the-variants.{Edge, Tick, Sent, Report, Read, Write, Unnamed}
 use Rattle.port_step.specs.Steps.{stepOver}
@@ -66,16 +70,19 @@ module _ {reading : ℕ} {d : Device} where
   entry-if false a b = b
 
 module _ (reading : ℕ) where
-  -- Pages: Tie, Changed and Echo.
+  -- Pages: Tie, Changed, Echo and Toggle.
   page-entry : (s : State) (word : ℕ) (d : Device) (r : Reader) → Entry false reading (withState s d) (pageIn s word reading (withReader r (withState s d)))
-  unfolding pageIn pageInAbility pageInAck
+  unfolding pageIn pageInAbility basePageInAbility nextPageInAbility pageInAck basePageInAck nextPageInAck
   page-entry Off word d r = stays refl
   page-entry Break word d r = stays refl
   page-entry Ability word d r =
-      due-if (hasOtherSelector word) (stays refl) (due-if (isTie (d .link .talk .own) word) it (elsewhere refl))
+      due-if (isBase (d .link .next .round)) (due-if (hasOtherSelector word) (stays refl) (due-if (isTie (d .link .talk .own) word) it (elsewhere refl)))
+      (due-if (repeatsHeld word (withReader r (withState Ability d) .link)) (stays refl) (due-if (sameToggle word (heldInRound (d .link))) it (elsewhere refl)))
   page-entry Ack word d r =
-      due-if (isChanged word (d .link .talk .held)) it
-      (due-if (eqb (fieldOf field.Ack word) 0) (stays refl) (due-if (echoesOther (d .link .talk .own) word) it (elsewhere refl)))
+      due-if (isBase (d .link .next .round))
+      (due-if (isChanged word (d .link .talk .held)) it
+      (due-if (eqb (fieldOf field.Ack word) 0) (stays refl) (due-if (echoesOther (d .link .talk .own) word) it (elsewhere refl))))
+      (due-if (isChangedNext word (heldInRound (d .link))) it (due-if (eqb (fieldOf field.Ack word) 0) (stays refl) (elsewhere refl)))
   page-entry Complete word d r = stays refl
   page-entry CheckLink word d r = stays refl
   page-entry Up word d r = stays refl
@@ -93,17 +100,21 @@ module _ (reading : ℕ) where
   edge-entry mode d =
       due-if (isTalking (d .state) && not (d .link .talk .out)) (heard-entry (edgeOf mode (d .link .reader) reading .heard) (edgeOf mode (d .link .reader) reading .reader) d) (stays refl)
 
-  -- Ticks: the inhibit timer in Check-link.
+  -- Ticks: the inhibit timer in Check-link, and a partner that is lost.
   order-entry : (p : Profile) (word : ℕ) (d : Device) → Entry false reading d (orders p reading word d)
   unfolding orders
   order-entry p word d = due-if (mayOrder p reading (d .link)) (stays refl) (stays refl)
 
+  talk-entry : (p : Profile) (word : ℕ) (d : Device) → Entry false reading d (talks p reading word d)
+  unfolding talks
+  talk-entry p word d = due-if (isLost p reading (d .link)) it (order-entry p word d)
+
   tick-in : (s : State) (p : Profile) (draw : ℕ) (d : Device) → Entry false reading (withState s d) (tickIn s p reading draw (withState s d))
   tick-in Off p draw d = stays refl
   tick-in Break p draw d = entry-if (runOut (p .breaking) (d .link .talk .timer) reading) (elsewhere refl) (stays refl)
-  tick-in Ability p draw d = order-entry p _ (withState Ability d)
-  tick-in Ack p draw d = order-entry p _ (withState Ack d)
-  tick-in Complete p draw d = order-entry p _ (withState Complete d)
+  tick-in Ability p draw d = talk-entry p _ (withState Ability d)
+  tick-in Ack p draw d = talk-entry p _ (withState Ack d)
+  tick-in Complete p draw d = talk-entry p _ (withState Complete d)
   tick-in CheckLink p draw d = entry-if (runOut (inhibitOf (d .link .outcome)) (d .link .talk .timer) reading) it (stays refl)
   tick-in Up p draw d = stays refl
 
@@ -113,12 +124,18 @@ module _ (reading : ℕ) where
 
   -- Pages sent: none.
   sent-in : (s : State) (order : List ℕ) (d : Device) → Entry false reading (withState s d) (sentIn s order reading (withState s d))
-  unfolding counted
+  unfolding counted decided nextOrNull
   sent-in Off order d = stays refl
   sent-in Break order d = stays refl
   sent-in Ability order d = due-if (d .link .talk .out) (stays refl) (stays refl)
   sent-in Ack order d = due-if (d .link .talk .out) (stays refl) (stays refl)
-  sent-in Complete order d = due-if (d .link .talk .out) (due-if (leb 3 (d .link .talk .count + 1)) (elsewhere refl) (stays refl)) (stays refl)
+  sent-in Complete order d = due-if (d .link .talk .out)
+      (due-if (leb 3 (d .link .talk .count + 1))
+      (due-if (setsNextPage (ownInRound (d .link)) || setsNextPage (heldInRound (d .link)))
+      (entry-if (d .link .next .loaded) (elsewhere refl) (entry-if (setsNextPage (ownInRound (d .link))) (stays refl) (elsewhere refl)))
+      (elsewhere refl))
+      (stays refl))
+      (stays refl)
   sent-in CheckLink order d = due-if (d .link .talk .out) (stays refl) (stays refl)
   sent-in Up order d = due-if (d .link .talk .out) (stays refl) (stays refl)
 
@@ -163,8 +180,10 @@ module _ (reading : ℕ) where
   unfolding commanded
   write-at Control value d = entry-if (hasBit value 15) (elsewhere refl) (command-entry (hasBit value 12) (hasBit value 9) d)
   write-at Status value d = stays refl
-  write-at (Part Advertised third) value d = stays refl
-  write-at (Part Partner third) value d = stays refl
+  write-at (Part bank.Advertised third) value d = stays refl
+  write-at (Part bank.Partner third) value d = stays refl
+  write-at (Part bank.Transmit third) value d = stays refl
+  write-at (Part bank.Heard third) value d = stays refl
   write-at Missing value d = stays refl
 
   write-entry : (n value : ℕ) (d : Device) → Entry (eqb n 512 && (hasBit value 12 && hasBit value 9)) reading d (writeDue n value reading d)

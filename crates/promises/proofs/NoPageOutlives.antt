@@ -6,7 +6,6 @@ use mathlib.Core.List.{List, [], _∷_, map}
 use native.Mathlib.Omega.{arith}
 use Rattle.page_resolve.specs.Rates.{rateOrder}
 use Rattle.line_mode.specs.Clock.{timeBetween}
-use Rattle.port_state.specs.declared.page_registers.PageRegisters.{PageRegisters}
 use Rattle.port_state.specs.declared.Device.{Device}
 use Rattle.port_state.specs.Memory.{freshDevice, intoBreak}
 use Rattle.port_state.specs.Changes.{withAdvertised}
@@ -68,7 +67,7 @@ meets r s = omega arith
 -- Two entered devices with the same advertisement.
 entered-twins : (r s : ℕ) (d c : Device) → d .lasting .advertised ≡ c .lasting .advertised
     → twin (timeBetween s r) (c .lasting .flags) (intoBreak r d) ≡ twin 0 (c .lasting .flags) (intoBreak s c)
-entered-twins r s d c same = ap₂ (λ (time : ℕ) (a : PageRegisters). intoBreak time (withAdvertised a c)) (meets r s) same
+entered-twins r s d c same = ap₂ (λ (time a : ℕ). intoBreak time (withAdvertised a c)) (meets r s) same
 
 -- What two devices show that have entered Break with the same advertisement, whatever they were before.
 abbrev EnteredSame : Type 0

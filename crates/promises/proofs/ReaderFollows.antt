@@ -1,8 +1,8 @@
 -- The reader of a device after any events: along each event it is made fresh, or has taken the edges that were taken. So in Ability, Ack and Complete it is what the
--- edges taken since Ability was entered have made of a fresh one.
+-- edges taken since Break was left have made of a fresh one.
 use Prim.Native.Nat.{ℕ, zero, suc, _+_}
 use mathlib.Core.Path.{_≡_, refl, sym, ap, ap₂, _∙_}
-use mathlib.Core.Bool.{Bool, true, false, cond, not, _&&_, false≢true}
+use mathlib.Core.Bool.{Bool, true, false, cond, not, _&&_, _||_, false≢true}
 use mathlib.Core.List.{List, [], _∷_, _++_}
 use lib.Dec.{eqb, leb}
 use Rattle.answers.specs.Answers.{Said, nothing}
@@ -31,13 +31,17 @@ use Rattle.port_state.specs.declared.State.the-variants.{Off, Break, Ability, A
 use Rattle.port_state.specs.declared.Device.{Device}
 use Rattle.port_state.specs.Memory.{Due, due, isTalking, freshDevice}
 use Rattle.port_state.specs.Changes.{withState, withReader}
-use Rattle.port_registers.specs.declared.Bank.the-variants.{Advertised, Partner}
+use Rattle.port_registers.specs.declared.Bank.the-variants as bank
 use Rattle.port_registers.specs.declared.Register.{Register}
 use Rattle.port_registers.specs.declared.Register.the-variants.{Control, Status, Part, Missing}
 use Rattle.port_registers.specs.Registers.{registerOf, readAt, readDue, entersBreakBy, commanded, writeAt, writeDue}
-use Rattle.port_timing.specs.Ticks.{lowSpeed, runOut, inhibitOf, mayOrder, orders, tickIn, tickDue}
-use Rattle.port_timing.specs.Sending.{counted, sentIn, sentDue, hasRate, reportIn, reportDue}
-use Rattle.port_hearing.specs.Edges.{isChanged, echoesOther, pageInAbility, pageInAck, pageIn, hears, takesEdges, edgeDue}
+use Rattle.port_timing.specs.Ticks.{lowSpeed, runOut, inhibitOf, mayOrder, orders, isLost, talks, tickIn, tickDue}
+use Rattle.port_timing.specs.Sending.{nextOrNull, decided, counted, sentIn, sentDue, hasRate, reportIn, reportDue}
+use Rattle.port_state.specs.Rounds.{isBase, ownInRound, heldInRound}
+use Rattle.page_word.specs.NextPages.{setsNextPage, sameToggle}
+use Rattle.port_hearing.specs.BasePages.{isChanged, echoesOther, basePageInAbility, basePageInAck}
+use Rattle.port_hearing.specs.NextPages.{isChangedNext, repeatsHeld, nextPageInAbility, nextPageInAck}
+use Rattle.port_hearing.specs.Edges.{pageInAbility, pageInAck, pageIn, hears, takesEdges, edgeDue}
 use Rattle.port_step.specs.declared.events.Event.{Event}
 use Rattle.port_step.specs.declared.events.Event.the-variants.{Edge, Tick, Sent, Report, Read, Write, Unnamed}
 use Rattle.port_step.specs.Steps.{stepOver, stepDue, afterAll}
@@ -77,16 +81,20 @@ pub and-false : (t : Bool) → (t && false) ≡ false
 and-false true = refl
 and-false false = refl
 
--- Edges. The reader has taken the edge; only Tie, Changed and Echo make it fresh, on the way into Break.
+-- Edges. The reader has taken the edge; only Tie, Changed, Echo and Toggle make it fresh, on the way into Break.
 module _ (reading : ℕ) (edges : List ℕ) (d : Device) (r : Reader) (same : r ≡ readerAfter lsmMode (d .link .reader) edges) where
   page-reads : (s : State) (word : ℕ) → Reads edges (withState s d) (pageIn s word reading (withReader r (withState s d)))
-  unfolding pageIn pageInAbility pageInAck
+  unfolding pageIn pageInAbility basePageInAbility nextPageInAbility pageInAck basePageInAck nextPageInAck
   page-reads Off word = goes refl same
   page-reads Break word = goes refl same
-  page-reads Ability word = either (hasOtherSelector word) (goes refl same) (either (isTie (d .link .talk .own) word) (fresh-then refl refl) (goes refl same))
+  page-reads Ability word =
+      either (isBase (d .link .next .round)) (either (hasOtherSelector word) (goes refl same) (either (isTie (d .link .talk .own) word) (fresh-then refl refl) (goes refl same)))
+      (either (repeatsHeld word (withReader r (withState Ability d) .link)) (goes refl same) (either (sameToggle word (heldInRound (d .link))) (fresh-then refl refl) (goes refl same)))
   page-reads Ack word =
-      either (isChanged word (d .link .talk .held)) (fresh-then refl refl)
-      (either (eqb (fieldOf field.Ack word) 0) (goes refl same) (either (echoesOther (d .link .talk .own) word) (fresh-then refl refl) (goes refl same)))
+      either (isBase (d .link .next .round))
+      (either (isChanged word (d .link .talk .held)) (fresh-then refl refl)
+      (either (eqb (fieldOf field.Ack word) 0) (goes refl same) (either (echoesOther (d .link .talk .own) word) (fresh-then refl refl) (goes refl same))))
+      (either (isChangedNext word (heldInRound (d .link))) (fresh-then refl refl) (either (eqb (fieldOf field.Ack word) 0) (goes refl same) (goes refl same)))
   page-reads Complete word = goes refl same
   page-reads CheckLink word = goes refl same
   page-reads Up word = goes refl same
@@ -115,12 +123,16 @@ order-reads : (reading word : ℕ) (d : Device) → Reads [] d (orders lowSpeed 
 unfolding orders
 order-reads reading word d = either (mayOrder lowSpeed reading (d .link)) (goes refl refl) (goes refl refl)
 
+talk-reads : (reading word : ℕ) (d : Device) → Reads [] d (talks lowSpeed reading word d)
+unfolding talks
+talk-reads reading word d = either (isLost lowSpeed reading (d .link)) (fresh-then (and-false (isTalking (d .state))) refl) (order-reads reading word d)
+
 tick-in : (s : State) (reading draw : ℕ) (d : Device) → Reads [] (withState s d) (tickIn s lowSpeed reading draw (withState s d))
 tick-in Off reading draw d = goes refl refl
 tick-in Break reading draw d = either-device (runOut (lowSpeed .breaking) (d .link .talk .timer) reading) (fresh-then refl refl) (goes refl refl)
-tick-in Ability reading draw d = order-reads reading _ (withState Ability d)
-tick-in Ack reading draw d = order-reads reading _ (withState Ack d)
-tick-in Complete reading draw d = order-reads reading _ (withState Complete d)
+tick-in Ability reading draw d = talk-reads reading _ (withState Ability d)
+tick-in Ack reading draw d = talk-reads reading _ (withState Ack d)
+tick-in Complete reading draw d = talk-reads reading _ (withState Complete d)
 tick-in CheckLink reading draw d = either-device (runOut (inhibitOf (d .link .outcome)) (d .link .talk .timer) reading) (fresh-then refl refl) (goes refl refl)
 tick-in Up reading draw d = goes refl refl
 
@@ -130,12 +142,19 @@ tick-reads reading draw d = tick-in (d .state) reading draw d
 
 -- Pages sent: the reader stays.
 sent-in : (s : State) (reading : ℕ) (d : Device) → Reads [] (withState s d) (sentIn s rateOrder reading (withState s d))
-unfolding counted
+unfolding counted decided nextOrNull
 sent-in Off reading d = goes refl refl
 sent-in Break reading d = goes refl refl
 sent-in Ability reading d = either (d .link .talk .out) (goes refl refl) (goes refl refl)
 sent-in Ack reading d = either (d .link .talk .out) (goes refl refl) (goes refl refl)
-sent-in Complete reading d = either (d .link .talk .out) (either (leb 3 (d .link .talk .count + 1)) (leaves refl refl) (goes refl refl)) (goes refl refl)
+sent-in Complete reading d =
+    either (d .link .talk .out)
+    (either (leb 3 (d .link .talk .count + 1))
+    (either (setsNextPage (ownInRound (d .link)) || setsNextPage (heldInRound (d .link)))
+    (either-device (d .link .next .loaded) (goes refl refl) (either-device (setsNextPage (ownInRound (d .link))) (goes refl refl) (goes refl refl)))
+    (leaves refl refl))
+    (goes refl refl))
+    (goes refl refl)
 sent-in CheckLink reading d = either (d .link .talk .out) (goes refl refl) (goes refl refl)
 sent-in Up reading d = either (d .link .talk .out) (goes refl refl) (goes refl refl)
 
@@ -175,8 +194,10 @@ write-at Control value reading d =
     (either-device (hasBit value 12) (either-device (entersBreakBy value (d .state)) (fresh-then (and-false (isTalking (d .state))) refl) (goes refl refl))
     (fresh-then (and-false (isTalking (d .state))) refl))
 write-at Status value reading d = goes refl refl
-write-at (Part Advertised third) value reading d = goes refl refl
-write-at (Part Partner third) value reading d = goes refl refl
+write-at (Part bank.Advertised third) value reading d = goes refl refl
+write-at (Part bank.Partner third) value reading d = goes refl refl
+write-at (Part bank.Transmit third) value reading d = goes refl refl
+write-at (Part bank.Heard third) value reading d = goes refl refl
 write-at Missing value reading d = goes refl refl
 
 write-reads : (n value reading : ℕ) (d : Device) → Reads [] d (writeDue n value reading d)

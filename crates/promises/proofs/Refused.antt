@@ -22,13 +22,15 @@ use Rattle.line_reader.specs.Reading.{edgeOf, arrives, goesOn, dropsOn}
 use Rattle.line_captures.specs.Captures.{readIn, readOf}
 use Rattle.port_state.specs.declared.State.the-variants.{Ability, Ack}
 use Rattle.port_state.specs.declared.Device.{Device}
-use Rattle.port_state.specs.PageRegisters.{wordOf, registersOf}
 use Rattle.port_state.specs.Memory.{Due, due, freshDevice, intoBreak}
 use Rattle.port_state.specs.Changes.{withState, withAdvertised, withOwn, withMark, withReader}
 use Rattle.port_registers.specs.Registers.{registerOf, readDue, commanded, writeDue}
-use Rattle.port_timing.specs.Ticks.{nonceFor, ownPage, echoingPage, mayOrder, orders, tickDue}
-use Rattle.port_hearing.specs.Edges.{beyondAckAndEcho, pageInAbility, pageInAck, pageIn, hears, edgeDue}
-use Rattle.port_timing.specs.Sending.{counted, sentDue, reportDue}
+use Rattle.port_timing.specs.Ticks.{nonceFor, ownPage, echoingPage, acknowledging, mayOrder, orders, isLost, talks, tickDue}
+use Rattle.page_word.specs.NextPages.{nextAfter}
+use Rattle.port_hearing.specs.BasePages.{beyondAck, beyondAckAndEcho, basePageInAbility, basePageInAck}
+use Rattle.port_hearing.specs.NextPages.{repeatsHeld, nextPageInAbility, nextPageInAck}
+use Rattle.port_hearing.specs.Edges.{pageInAbility, pageInAck, pageIn, hears, edgeDue}
+use Rattle.port_timing.specs.Sending.{nextOrNull, decided, counted, sentDue, reportDue}
 use Rattle.port_step.specs.declared.events.Event.{Event}
 use Rattle.port_step.specs.declared.events.Event.the-variants.{Sent, Read, Write}
 use Rattle.port_step.specs.Steps.{stepOver, stepDue, saysTo, afterAll}
@@ -37,13 +39,14 @@ use Rattle.bench_listing.specs.Words.{decimal}
 use Rattle.bench_listing.specs.Listing.{given, refusedLine, listing}
 use Rattle.promises.specs.FirstLink.{pageFrom, toAbility, toAck}
 use Rattle.promises.specs.Refusals.{Kept, EachRefusal}
+use Rattle.promises.proofs.NextPagesWorked.{one-end}
 
 -- An event that is refused and changes nothing, whatever has come before.
 kept : (past : List Event) (event : Event) (refusal : Refusal) → stepDue event (afterAll freshDevice past) ≡ due (refused refusal) (afterAll freshDevice past)
     → Kept past event refusal
 kept past event refusal e = record { says = ap (λ (x : Due). x .says) e; kept = ap (λ (x : Due). x .device) e }
 
-no-register-read : (reading : ℕ) (d : Device) → stepDue (Read reading 520) d ≡ due (refused Register) d
+no-register-read : (reading : ℕ) (d : Device) → stepDue (Read reading 526) d ≡ due (refused Register) d
 unfolding stepOver readDue registerOf
 no-register-read reading d = refl
 
@@ -57,14 +60,14 @@ nothing-out reading d state out = rw (state, out)
 
 -- The device in Ability: the own page is made, and the mark is "waiting" since the break timer was out.
 abbrev inAbility : Device
-inAbility = withState Ability (withMark false 8000000 (withOwn 0x850001 (intoBreak 0 (withAdvertised (registersOf 0x800000) freshDevice))))
+inAbility = withState Ability (withMark false 8000000 (withOwn 0x850001 (intoBreak 0 (withAdvertised 0x800000 freshDevice))))
 
 before-page : afterAll freshDevice toAbility ≡ inAbility
-unfolding afterAll stepOver tickDue writeDue registerOf commanded ownPage nonceFor wordOf part withPart
+unfolding afterAll stepOver tickDue writeDue registerOf commanded ownPage nonceFor part withPart
 before-page = refl
 
 after-page : afterAll freshDevice (toAbility ++ pageFrom 8001000 0xA90002) ≡ withReader (Dropping 8125800) inAbility
-unfolding afterAll stepOver tickDue writeDue registerOf commanded ownPage nonceFor wordOf part withPart edgeDue hears edgeOf goesOn dropsOn judgementOf asks standsAt isBit arrives isClock agrees checkBits checkList remainder xor readings transitions positionsTo hasTransition sentBits pageIn pageInAbility
+unfolding afterAll stepOver tickDue writeDue registerOf commanded ownPage nonceFor part withPart edgeDue hears edgeOf goesOn dropsOn judgementOf asks standsAt isBit arrives isClock agrees checkBits checkList remainder xor readings transitions positionsTo hasTransition sentBits pageIn pageInAbility basePageInAbility
 after-page = refl
 
 -- A page with another selector in Ability leaves all of the device but the reader.
@@ -72,7 +75,7 @@ stays : afterAll freshDevice (toAbility ++ pageFrom 8001000 0xA90002) ≡ withRe
 stays = after-page ∙ ap (withReader (Dropping 8125800)) (sym before-page)
 
 pub each-refusal : EachRefusal
-unfolding afterAll saysTo stepOver tickDue writeDue sentDue reportDue registerOf commanded ownPage echoingPage nonceFor wordOf beyondAckAndEcho part withPart edgeDue hears edgeOf goesOn dropsOn judgementOf asks standsAt isBit arrives isClock agrees checkBits checkList remainder xor readings transitions positionsTo hasTransition sentBits pageIn pageInAbility pageInAck mayOrder orders counted resolutionOf hasAbility roleOf writeOf writeIn edgeCount modeOf readOf readIn runOf eventsOf eventOf listing given refusedLine decimal
+unfolding afterAll saysTo stepOver tickDue writeDue sentDue reportDue registerOf commanded ownPage echoingPage nonceFor beyondAckAndEcho part withPart edgeDue hears edgeOf goesOn dropsOn judgementOf asks standsAt isBit arrives isClock agrees checkBits checkList remainder xor readings transitions positionsTo hasTransition sentBits pageIn pageInAbility pageInAck basePageInAbility basePageInAck beyondAck nextPageInAbility nextPageInAck repeatsHeld decided nextOrNull nextAfter isLost talks acknowledging mayOrder orders counted resolutionOf hasAbility roleOf writeOf writeIn edgeCount modeOf readOf readIn runOf eventsOf eventOf listing given refusedLine decimal
 each-refusal =
     record {
       gap = record { run = record { said = refl; left = refl }; left = refl };
@@ -85,7 +88,7 @@ each-refusal =
       echo = record { said = refl; left = refl };
       none = record { said = refl; left = refl };
       roles = record { said = refl; left = refl };
-      register-read = kept toAck (Read 8200000 520) Register (no-register-read 8200000 (afterAll freshDevice toAck));
+      register-read = kept toAck (Read 8200000 526) Register (no-register-read 8200000 (afterAll freshDevice toAck));
       register-written = kept toAck (Write 8200000 511 1) Register (no-register-written 8200000 (afterAll freshDevice toAck));
       turn-off = record { says = refl; kept = refl };
       turn-break = record { says = refl; kept = refl };
@@ -99,4 +102,5 @@ each-refusal =
       mode-first = refl;
       wide-next = refl;
       odd = refl;
+      toggle = one-end .toggle;
     }

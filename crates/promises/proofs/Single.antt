@@ -82,7 +82,6 @@ no-second-answer =
       step = both;
       read = both;
       resolved = both;
-      registers = both;
       device = both;
       answer = λ first second due a b e f. one-answer first second a b (e ∙ sym f);
       reply = λ first second due a b m n.

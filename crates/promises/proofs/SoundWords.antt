@@ -6,9 +6,9 @@ use native.Mathlib.Nat.{mod-lt}
 use native.Mathlib.Omega.{arith}
 use lib.Dec.{eqb}
 use lib.Pow.{pow-pos}
-use Rattle.page_word.specs.Fields.{hasOtherSelector}
+use Rattle.page_word.specs.Fields.{withField, hasOtherSelector}
 use Rattle.page_word.specs.declared.fields.Field.the-variants as field
-use Rattle.page_word.proofs.FieldLaws.{get-after-set, set-keeps, set-stays-word}
+use Rattle.page_word.proofs.FieldLaws.{get-after-set, set-keeps, stays-below, set-stays-word}
 use Rattle.page_check_bits.specs.CheckBits.{agrees}
 use Rattle.line_mode.specs.declared.modes.LineMode.{LineMode}
 use Rattle.line_mode.specs.declared.modes.Judgement.{Judgement}
@@ -22,9 +22,15 @@ use Rattle.line_reader.specs.declared.reader.Reader.{Reader}
 use Rattle.line_reader.specs.declared.reader.Reader.the-variants.{Fresh, Open, Dropping}
 use Rattle.line_reader.specs.Pattern.{asks}
 use Rattle.line_reader.specs.Reading.{step, withBit, pageEnd, arrives, goesOn, dropsOn, edgeOf}
-use Rattle.port_state.specs.PageRegisters.{wordOf}
-use Rattle.port_state.specs.declared.page_registers.PageRegisters.{PageRegisters}
-use Rattle.port_timing.specs.Ticks.{ownPage, echoingPage}
+use Rattle.page_word.specs.NextPages.{nextAfter}
+use Rattle.page_word.specs.declared.thirds.Third.{Third}
+use Rattle.page_word.specs.declared.thirds.Third.the-variants.{Low, Middle, High}
+use Rattle.page_word.specs.Thirds.{withThird}
+use Rattle.port_state.specs.declared.rounds.Round.{Round}
+use Rattle.port_state.specs.declared.rounds.Round.the-variants.{Base, First, Later}
+use Rattle.port_state.specs.declared.Link.{Link}
+use Rattle.port_state.specs.Rounds.{byRound, isBase, ownInRound}
+use Rattle.port_timing.specs.Ticks.{ownPage, echoingPage, acknowledging}
 
 -- A good page, if one is heard, is a word, from whatever reader.
 abbrev pub HeardWord : Heard → Type 0
@@ -72,24 +78,48 @@ heard-word mode (Open at last bits) reading = goes-word mode at bits reading (ju
 heard-word mode (Dropping last) reading = drops-word reading (judgementOf mode (timeBetween reading last))
 
 -- An own page has selector 1, whatever is advertised, and is a word where the advertisement is.
-pub own-selector : (advertised draw : ℕ) → hasOtherSelector (ownPage advertised draw) ≡ false
+pub own-selector : (advertised draw : ℕ) (loaded : Bool) → hasOtherSelector (ownPage advertised draw loaded) ≡ false
 unfolding ownPage
-own-selector advertised draw =
+own-selector advertised draw loaded =
     ap (λ (s : ℕ). not (eqb s 1))
-    (set-keeps field.Nonce field.Selector _ _ (λ e. omega arith) ∙ set-keeps field.NextPage field.Selector 0 _ (λ e. omega arith)
+    (set-keeps field.Nonce field.Selector _ _ (λ e. omega arith) ∙ set-keeps field.NextPage field.Selector _ _ (λ e. omega arith)
     ∙ set-keeps field.Ack field.Selector 0 _ (λ e. omega arith) ∙ set-keeps field.EchoedNonce field.Selector 0 _ (λ e. omega arith)
     ∙ get-after-set field.Selector 1 advertised)
 
-pub own-word : (advertised draw : ℕ) → advertised < 2 ^ 48 → ownPage advertised draw < 2 ^ 48
+pub own-word : (advertised draw : ℕ) (loaded : Bool) → advertised < 2 ^ 48 → ownPage advertised draw loaded < 2 ^ 48
 unfolding ownPage
-own-word advertised draw h =
+own-word advertised draw loaded h =
     set-stays-word field.Nonce _ _
-    (set-stays-word field.NextPage 0 _ (set-stays-word field.Ack 0 _ (set-stays-word field.EchoedNonce 0 _ (set-stays-word field.Selector 1 advertised h))))
+    (set-stays-word field.NextPage _ _ (set-stays-word field.Ack 0 _ (set-stays-word field.EchoedNonce 0 _ (set-stays-word field.Selector 1 advertised h))))
 
 pub echoing-word : (own held : ℕ) → own < 2 ^ 48 → echoingPage own held < 2 ^ 48
 unfolding echoingPage
 echoing-word own held h = set-stays-word field.Ack 1 _ (set-stays-word field.EchoedNonce _ own h)
 
-pub three-word : (r : PageRegisters) → r .low < 2 ^ 16 → r .middle < 2 ^ 16 → r .high < 2 ^ 16 → wordOf r < 2 ^ 48
-unfolding wordOf
-three-word r l m h = omega (arith, l, m, h)
+pub acknowledging-word : (l : Link) → l .talk .own < 2 ^ 48 → l .next .own < 2 ^ 48 → acknowledging l < 2 ^ 48
+unfolding acknowledging
+acknowledging-word l base next = by (l .next .round)
+  where
+    by : (r : Round) → cond (isBase r) (echoingPage (l .talk .own) (l .talk .held)) (withField field.Ack 1 (byRound r (l .talk .own) (l .next .own) (l .next .own))) < 2 ^ 48
+    by Base = echoing-word (l .talk .own) (l .talk .held) base
+    by First = set-stays-word field.Ack 1 (l .next .own) next
+    by Later = set-stays-word field.Ack 1 (l .next .own) next
+
+-- The own page of a round, and a Next Page that follows it.
+pub own-in-round-word : (l : Link) → l .talk .own < 2 ^ 48 → l .next .own < 2 ^ 48 → ownInRound l < 2 ^ 48
+own-in-round-word l base next = by (l .next .round)
+  where
+    by : (r : Round) → byRound r (l .talk .own) (l .next .own) (l .next .own) < 2 ^ 48
+    by Base = base
+    by First = next
+    by Later = next
+
+pub next-word : (before word : ℕ) → word < 2 ^ 48 → nextAfter before word < 2 ^ 48
+unfolding nextAfter
+next-word before word h = stays-below 48 11 1 _ _ (omega arith) (set-stays-word field.Ack 0 word h)
+
+-- A word with one of its registers written.
+pub third-word : (third : Third) (value word : ℕ) → word < 2 ^ 48 → withThird third value word < 2 ^ 48
+third-word Low value word h = stays-below 48 0 16 value word (omega arith) h
+third-word Middle value word h = stays-below 48 16 16 value word (omega arith) h
+third-word High value word h = stays-below 48 32 16 value word (omega arith) h

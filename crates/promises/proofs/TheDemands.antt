@@ -12,6 +12,8 @@ use Rattle.promises.proofs.GoodAsNew.{as-if-new}
 use Rattle.promises.proofs.TheTable.{table}
 use Rattle.promises.proofs.Links.{first-link, worked-pasts}
 use Rattle.promises.proofs.Refused.{each-refusal}
+use Rattle.promises.proofs.NextPagesWorked.{next-page-links}
+use Rattle.promises.proofs.NextPagesProved.{next-page-facts}
 
 pub demands : Demands
 demands =
@@ -30,4 +32,6 @@ demands =
       table = table;
       first-link = first-link;
       each-refusal = each-refusal;
+      next-page-links = next-page-links;
+      next-page-facts = next-page-facts;
     }

@@ -6,6 +6,7 @@ use lib.Dec.{eqb}
 use Rattle.answers.specs.Answers.{nothing, refused, pageRead}
 use Rattle.answers.specs.declared.Refusal.the-variants as refusal
 use Rattle.page_word.specs.Fields.{fieldOf, hasOtherSelector, isTie}
+use Rattle.page_word.specs.NextPages.{sameToggle}
 use Rattle.page_word.specs.declared.fields.Field.the-variants as field
 use Rattle.line_reader.specs.declared.endings.Ending.the-variants.{Good, Gap, Cut, Check}
 use Rattle.line_reader.specs.declared.endings.Heard.{Heard}
@@ -19,7 +20,10 @@ use Rattle.port_state.specs.declared.Device.{Device}
 use Rattle.port_state.specs.Memory.{isTalking}
 use Rattle.port_state.specs.Changes.{withState, withReader}
 use Rattle.line_mode.specs.declared.modes.LineMode.{LineMode}
-use Rattle.port_hearing.specs.Edges.{isChanged, faultAfter, echoesOther, pageInAbility, pageInAck, pageIn, hears, edgeDue}
+use Rattle.port_state.specs.Rounds.{isBase, heldInRound}
+use Rattle.port_hearing.specs.BasePages.{isChanged, faultAfter, echoesOther, basePageInAbility, basePageInAck}
+use Rattle.port_hearing.specs.NextPages.{isChangedNext, repeatsHeld, nextPageInAbility, nextPageInAck}
+use Rattle.port_hearing.specs.Edges.{pageInAbility, pageInAck, pageIn, hears, edgeDue}
 use Rattle.port_state.proofs.ClockAhead.{twin}
 use Rattle.promises.proofs.Twins.{Alike, alike-if, kept, saying-same}
 use Rattle.promises.specs.TwoPasts.{shifted}
@@ -28,19 +32,26 @@ module _ (δ : ℕ) (g : Flags) (reading : ℕ) where
   -- Good pages, by state.
   in-ability : (word : ℕ) (d : Device)
       → Alike δ (d .lasting .flags) g (pageInAbility word reading (withState Ability d)) (pageInAbility word (shifted δ reading) (twin δ g (withState Ability d)))
-  unfolding pageInAbility
+  unfolding pageInAbility basePageInAbility nextPageInAbility repeatsHeld
   in-ability word d =
-      alike-if (hasOtherSelector word) (saying-same (refused refusal.Selector) kept)
-      (alike-if (isTie (d .link .talk .own) word) (saying-same (refused refusal.Tie) kept) (saying-same (pageRead word) kept))
+      alike-if (isBase (d .link .next .round))
+      (alike-if (hasOtherSelector word) (saying-same (refused refusal.Selector) kept)
+      (alike-if (isTie (d .link .talk .own) word) (saying-same (refused refusal.Tie) kept) (saying-same (pageRead word) kept)))
+      (alike-if (repeatsHeld word (d .link)) (saying-same (pageRead word) kept)
+      (alike-if (sameToggle word (heldInRound (d .link))) (saying-same (refused refusal.Toggle) kept) (saying-same (pageRead word) kept)))
 
   in-ack : (word : ℕ) (d : Device)
       → Alike δ (d .lasting .flags) g (pageInAck word reading (withState Ack d)) (pageInAck word (shifted δ reading) (twin δ g (withState Ack d)))
-  unfolding pageInAck
+  unfolding pageInAck basePageInAck nextPageInAck
   in-ack word d =
-      alike-if (isChanged word (d .link .talk .held)) (saying-same (refused refusal.Changed) kept)
+      alike-if (isBase (d .link .next .round))
+      (alike-if (isChanged word (d .link .talk .held)) (saying-same (refused refusal.Changed) kept)
       (alike-if (eqb (fieldOf field.Ack word) 0) (saying-same (pageRead word) kept)
       (alike-if (echoesOther (d .link .talk .own) word) (saying-same (refused refusal.Echo) kept)
-      (saying-same (pageRead word) (record { device = refl; flags = λ h. ap (λ (f : Flags). record { received = true; fault = faultAfter word (f .fault) }) h }))))
+      (saying-same (pageRead word) (record { device = refl; flags = λ h. ap (λ (f : Flags). record { received = true; fault = faultAfter word (f .fault) }) h })))))
+      (alike-if (isChangedNext word (heldInRound (d .link))) (saying-same (refused refusal.Changed) kept)
+      (alike-if (eqb (fieldOf field.Ack word) 0) (saying-same (pageRead word) kept)
+      (saying-same (pageRead word) (record { device = refl; flags = λ h. ap (λ (f : Flags). record { received = true; fault = f .fault }) h }))))
 
   in-state : (s : State) (word : ℕ) (d : Device)
       → Alike δ (d .lasting .flags) g (pageIn s word reading (withState s d)) (pageIn s word (shifted δ reading) (twin δ g (withState s d)))

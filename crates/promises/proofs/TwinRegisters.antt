@@ -11,8 +11,8 @@ use Rattle.page_word.specs.Fields.{withPart}
 use Rattle.port_state.specs.declared.Flags.{Flags}
 use Rattle.port_state.specs.declared.Device.{Device}
 use Rattle.port_state.specs.Memory.{isUp}
-use Rattle.port_state.specs.PageRegisters.{thirdOf}
-use Rattle.port_registers.specs.declared.Bank.the-variants.{Advertised, Partner}
+use Rattle.page_word.specs.Thirds.{thirdOf}
+use Rattle.port_registers.specs.declared.Bank.the-variants as bank
 use Rattle.port_registers.specs.declared.Register.{Register}
 use Rattle.port_registers.specs.declared.Register.the-variants.{Control, Status, Part, Missing}
 use Rattle.port_registers.specs.Registers.{registerOf, bankOf, controlValue, statusBits, readAt, readDue, entersBreakBy, commanded, writeAt, writeDue}
@@ -77,8 +77,10 @@ module _ (δ : ℕ) (g : Flags) where
       → Alike δ (d .lasting .flags) g (writeAt r value reading d) (writeAt r value (shifted δ reading) (twin δ g d))
   write-at Control value reading d = saying-same nothing (command-twins value reading d)
   write-at Status value reading d = saying-same nothing kept
-  write-at (Part Advertised third) value reading d = saying-same nothing kept
-  write-at (Part Partner third) value reading d = saying-same nothing kept
+  write-at (Part bank.Advertised third) value reading d = saying-same nothing kept
+  write-at (Part bank.Partner third) value reading d = saying-same nothing kept
+  write-at (Part bank.Transmit third) value reading d = saying-same nothing kept
+  write-at (Part bank.Heard third) value reading d = saying-same nothing kept
   write-at Missing value reading d = saying-same (refused refusal.Register) kept
 
   pub write-alike : (n value reading : ℕ) (d : Device)

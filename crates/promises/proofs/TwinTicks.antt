@@ -2,7 +2,7 @@
 -- between two readings is the same if both are later by δ.
 use Prim.Native.Nat.{ℕ, _+_}
 use mathlib.Core.Path.{_≡_, refl, ap, ap₂, _∙_}
-use mathlib.Core.Bool.{Bool, cond, not, _&&_}
+use mathlib.Core.Bool.{Bool, cond, not, _&&_, _||_}
 use mathlib.Core.List.{List}
 use lib.Dec.{leb, ltb}
 use Rattle.answers.specs.Answers.{nothing, refused, pageOrdered}
@@ -16,10 +16,12 @@ use Rattle.port_state.specs.declared.State.the-variants.{Off, Break, Ability, A
 use Rattle.port_state.specs.declared.Flags.{Flags}
 use Rattle.port_state.specs.declared.Link.{Link}
 use Rattle.port_state.specs.declared.Device.{Device}
+use Rattle.page_word.specs.NextPages.{setsNextPage}
 use Rattle.port_state.specs.Changes.{withState}
+use Rattle.port_state.specs.Rounds.{isBase, ownInRound, heldInRound}
 use Rattle.port_timing.specs.declared.profile.Profile.{Profile}
-use Rattle.port_timing.specs.Ticks.{echoingPage, runOut, inhibitOf, holdsBack, mayOrder, orders, tickIn, tickDue}
-use Rattle.port_timing.specs.Sending.{counted, sentIn, sentDue, hasRate, reportIn, reportDue}
+use Rattle.port_timing.specs.Ticks.{acknowledging, runOut, inhibitOf, holdsBack, mayOrder, orders, isLost, talks, tickIn, tickDue}
+use Rattle.port_timing.specs.Sending.{nextOrNull, decided, counted, sentIn, sentDue, hasRate, reportIn, reportDue}
 use Rattle.port_state.proofs.ClockAhead.{linkIn, twin}
 use Rattle.promises.proofs.Twins.{Twins, Alike, twins-if, alike-if, twins-by, alike-by, kept, saying-same}
 use Rattle.promises.specs.TwoPasts.{shifted}
@@ -52,8 +54,23 @@ module _ (δ : ℕ) (g : Flags) (reading : ℕ) where
       (saying-same (pageOrdered word) kept)
       (saying-same nothing kept)
 
+  -- The partner is lost at both or at neither.
+  lost-later : (p : Profile) (l : Link) → isLost p (shifted δ reading) (linkIn Ability δ l) ≡ isLost p reading l
+  unfolding isLost
+  lost-later p l = ap (λ (ran : Bool). not (isBase (l .next .round)) && (not (l .talk .out) && ran)) (run-out-later (p .lost) (l .next .good))
+
+  talked : (p : Profile) (word : ℕ) (s : State) (d : Device) → linkIn s δ (d .link) ≡ linkIn Ability δ (d .link)
+      → Alike δ (d .lasting .flags) g (talks p reading word (withState s d)) (talks p (shifted δ reading) word (twin δ g (withState s d)))
+  unfolding talks
+  talked p word s d times =
+      alike-by (isLost p reading (d .link)) (isLost p (shifted δ reading) (linkIn s δ (d .link)))
+      (ap (isLost p (shifted δ reading)) times ∙ lost-later p (d .link))
+      (saying-same nothing kept)
+      (ordered p word s d times)
+
   tick-in : (s : State) (p : Profile) (draw : ℕ) (d : Device)
       → Alike δ (d .lasting .flags) g (tickIn s p reading draw (withState s d)) (tickIn s p (shifted δ reading) draw (twin δ g (withState s d)))
+  unfolding acknowledging
   tick-in Off p draw d = saying-same nothing kept
   tick-in Break p draw d =
       saying-same nothing
@@ -61,9 +78,9 @@ module _ (δ : ℕ) (g : Flags) (reading : ℕ) where
       (run-out-later (p .breaking) (d .link .talk .timer))
       kept
       kept)
-  tick-in Ability p draw d = ordered p (d .link .talk .own) Ability d refl
-  tick-in Ack p draw d = ordered p (echoingPage (d .link .talk .own) (d .link .talk .held)) Ack d refl
-  tick-in Complete p draw d = ordered p (echoingPage (d .link .talk .own) (d .link .talk .held)) Complete d refl
+  tick-in Ability p draw d = talked p (ownInRound (d .link)) Ability d refl
+  tick-in Ack p draw d = talked p (acknowledging (d .link)) Ack d refl
+  tick-in Complete p draw d = talked p (acknowledging (d .link)) Complete d refl
   tick-in CheckLink p draw d =
       let number = inhibitOf (d .link .outcome) in
       saying-same nothing
@@ -80,14 +97,18 @@ module _ (δ : ℕ) (g : Flags) (reading : ℕ) where
   -- A page sent.
   sent-in : (s : State) (order : List ℕ) (d : Device)
       → Alike δ (d .lasting .flags) g (sentIn s order reading (withState s d)) (sentIn s order (shifted δ reading) (twin δ g (withState s d)))
-  unfolding counted
+  unfolding counted decided nextOrNull
   sent-in Off order d = saying-same (refused Turn) kept
   sent-in Break order d = saying-same (refused Turn) kept
   sent-in Ability order d = alike-if (d .link .talk .out) (saying-same nothing kept) (saying-same (refused Turn) kept)
   sent-in Ack order d = alike-if (d .link .talk .out) (saying-same nothing kept) (saying-same (refused Turn) kept)
   sent-in Complete order d =
       alike-if (d .link .talk .out)
-      (alike-if (leb 3 (d .link .talk .count + 1)) (saying-same (saidOf (resolutionOf order (d .link .talk .own) (d .link .talk .held))) kept) (saying-same nothing kept))
+      (alike-if (leb 3 (d .link .talk .count + 1))
+      (alike-if (setsNextPage (ownInRound (d .link)) || setsNextPage (heldInRound (d .link)))
+      (saying-same nothing (twins-if (d .link .next .loaded) kept (twins-if (setsNextPage (ownInRound (d .link))) kept kept)))
+      (saying-same (saidOf (resolutionOf order (d .link .talk .own) (d .link .talk .held))) kept))
+      (saying-same nothing kept))
       (saying-same (refused Turn) kept)
   sent-in CheckLink order d = alike-if (d .link .talk .out) (saying-same nothing kept) (saying-same (refused Turn) kept)
   sent-in Up order d = alike-if (d .link .talk .out) (saying-same nothing kept) (saying-same (refused Turn) kept)

@@ -16,6 +16,7 @@ use Rattle.line_captures.specs.Captures.{isOpen}
 use Rattle.line_captures.specs.ReadingBack.{Carries, onlyLast, opensAfter}
 use Rattle.port_state.specs.declared.Device.{Device}
 use Rattle.port_state.specs.Memory.{due, freshDevice, isTalking}
+use Rattle.port_timing.specs.Ticks.{lowSpeed, isLost}
 use Rattle.port_hearing.specs.Edges.{takesEdges, pageIn}
 use Rattle.port_step.specs.declared.events.Event.{Event}
 use Rattle.port_step.specs.declared.events.Event.the-variants.{Edge, Tick, Sent, Report, Read, Write, Unnamed}
@@ -31,18 +32,22 @@ takenOf (Read reading register) d = []
 takenOf (Write reading register value) d = []
 takenOf Unnamed d = []
 
--- The edges taken since Ability was last entered, after one more event: those of before and this one, if it is an edge that is taken; and none outside Ability, Ack
--- and Complete, and at the event that enters Ability ("reader fresh"). An edge that is ignored does not count, also not for quiet: after a page was out, what
+-- The device is in Ability, Ack or Complete before an event and after it: so the link is still the same.
+abbrev pub talksOn : Event → Device → Bool
+talksOn e d = isTalking (d .state) && isTalking (stepDue e d .device .state)
+
+-- The edges taken since Break was last left, after one more event: those of before and this one, if it is an edge that is taken; and none outside Ability, Ack
+-- and Complete, and at the event that leaves Break ("reader fresh"). An edge that is ignored does not count, also not for quiet: after a page was out, what
 -- counts is the time since the last edge before it that was taken.
 abbrev pub takenNext : (edges : List ℕ) → Event → Device → List ℕ
-takenNext edges e d = if isTalking (d .state) && isTalking (stepDue e d .device .state) then edges ++ takenOf e d else []
+takenNext edges e d = if talksOn e d then edges ++ takenOf e d else []
 
 -- So along a row of events.
 unfoldable pub takenAlong : (edges : List ℕ) → Device → List Event → List ℕ
 takenAlong edges d [] = edges
 takenAlong edges d (e ∷ later) = takenAlong (takenNext edges e d) (stepDue e d .device) later
 
--- A device after any events, from fresh on, and the edges that it has then taken since it last entered Ability.
+-- A device after any events, from fresh on, and the edges that it has then taken since it last left Break.
 abbrev pub after : List Event → Device
 after past = afterAll freshDevice past
 
@@ -69,9 +74,9 @@ pub record UnderWay (past : List Event) (w : ℕ) (rest : List ℕ) : Type 0 whe
 abbrev pub pageSays : (word : ℕ) → Device → Said
 pageSays word d = pageIn (d .state) word 0 d .says
 
--- The refusals of a page: 4 to 7, Selector, Tie, Changed, Echo.
+-- The refusals of a page: 4 to 7, Selector, Tie, Changed, Echo; and 17, Toggle.
 abbrev pub refusesPage : Said → Bool
-refusesPage s = among (s .kind) (4 ∷ 5 ∷ 6 ∷ 7 ∷ [])
+refusesPage s = among (s .kind) (4 ∷ 5 ∷ 6 ∷ 7 ∷ 17 ∷ [])
 
 -- "A good page not refused answers itself": the answer is this page, or a refusal of a page.
 abbrev pub isOfPage : (word : ℕ) → Said → Bool
@@ -89,15 +94,16 @@ pub record EndsPage (past : List Event) (e : Event) (w : ℕ) : Type 0 where
   pub edge : e ≡ Edge reading
   pub page : UnderWay past w (reading ∷ [])
 
--- Events that change neither the state, in Ability, Ack and Complete, nor what was taken, whatever the device: any that is no edge, no page sent and no write to 512.
-abbrev pub comesBetween : Event → Bool
-comesBetween (Edge reading) = false
-comesBetween (Tick reading draw) = true
-comesBetween (Sent reading) = false
-comesBetween (Report reading up) = true
-comesBetween (Read reading register) = true
-comesBetween (Write reading register value) = not (register =? 512)
-comesBetween Unnamed = true
+-- Events that change neither the state, in Ability, Ack and Complete, nor what was taken: any that is no edge, no page sent, no write to 512 and no tick that finds the
+-- partner lost, which goes to Break.
+abbrev pub comesBetween : Event → Device → Bool
+comesBetween (Edge reading) d = false
+comesBetween (Tick reading draw) d = not (isLost lowSpeed reading (d .link))
+comesBetween (Sent reading) d = false
+comesBetween (Report reading up) d = true
+comesBetween (Read reading register) d = true
+comesBetween (Write reading register value) d = not (register =? 512)
+comesBetween Unnamed d = true
 
 -- What an edge where an attempt may open answers: Cut where it ends an open one, else nothing.
 abbrev pub cutOrNothing : List Event → Said
@@ -117,7 +123,7 @@ pub record ReadingAtTheDevice : Type 0 where
   pub page-or-refusal : (word : ℕ) (d : Device) → takesEdges d ≡ true → isOfPage word (pageSays word d) ≡ true
   -- Other events may come between its edges: these leave the state and the edges taken as they are. (A tick may order the own page; edges are then ignored until
   -- it is sent.)
-  pub between : (past : List Event) (e : Event) → isTalking (after past .state) ≡ true → comesBetween e ≡ true
+  pub between : (past : List Event) (e : Event) → isTalking (after past .state) ≡ true → comesBetween e (after past) ≡ true
       → (after (past ++ (e ∷ [])) .state ≡ after past .state) × (taken (past ++ (e ∷ [])) ≡ taken past)
   -- So it is edge by edge: at the first,
   pub first : (past : List Event) (x : ℕ) → takesEdges (after past) ≡ true → opensAfter lsmMode (taken past) x ≡ true → GoesOn past x (cutOrNothing past)
@@ -127,5 +133,5 @@ pub record ReadingAtTheDevice : Type 0 where
   pub last : (past : List Event) (x w : ℕ) → UnderWay past w (x ∷ []) → stepDue (Edge x) (after past) .says ≡ pageSays w (after past)
   -- "and no others read as a page": whatever the event, a page is answered only at the last edge of its own page,
   pub only-page : (past : List Event) (e : Event) (w : ℕ) → stepDue e (after past) .says ≡ pageRead w → EndsPage past e w
-  -- and a refusal 4 to 7 only at the last edge of some page, whose refusal it then is, by `last`.
+  -- and a refusal 4 to 7 or 17 only at the last edge of some page, whose refusal it then is, by `last`.
   pub only-refusal : (past : List Event) (e : Event) → refusesPage (stepDue e (after past) .says) ≡ true → (w : ℕ) × EndsPage past e w

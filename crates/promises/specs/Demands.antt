@@ -16,6 +16,8 @@ use Rattle.promises.specs.WorkedPasts.{WorkedPasts}
 use Rattle.promises.specs.Table.{Table}
 use Rattle.promises.specs.SmallDamage.{SmallDamage}
 use Rattle.promises.specs.BothEnds.{BothEnds}
+use Rattle.promises.specs.NextPageLinks.{NextPageLinks}
+use Rattle.promises.specs.NextPageFacts.{NextPageFacts}
 
 pub record Demands : Type 0 where
   -- Demand 1, beyond the contracts. 01, "What the promises have to say": "That no second answer fits is proved".
@@ -42,7 +44,7 @@ pub record Demands : Type 0 where
   pub no-page-outlives-its-link : NoPageOutlivesItsLink
   -- What it comes to for one module: after Break, no answer depends on any page heard before it, but for these two bits.
   pub as-if-new : AsIfNew
-  -- It speaks of something: two modules that do differ in bit 6 of 7.513, and in nothing else that they say.
+  -- It speaks of something: modules that do differ in bit 6 of 7.513, and in nothing else that they say, one of them amid Next Pages.
   pub worked-pasts : WorkedPasts
   -- Demands 1 and 2, worked out: "One statement covers P1-P14."
   pub table : Table
@@ -50,3 +52,7 @@ pub record Demands : Type 0 where
   pub first-link : FirstLink
   -- and each of 01's refusals is met.
   pub each-refusal : EachRefusal
+  -- Request 7, worked out: two ends that tell each other pages, the hold, a repeat, Toggle, Changed, lost, a head that is swapped;
+  pub next-page-links : NextPageLinks
+  -- and what holds of Next Pages at every device, some of it beyond the request.
+  pub next-page-facts : NextPageFacts

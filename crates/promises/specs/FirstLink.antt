@@ -1,5 +1,5 @@
 -- A link from a fresh device through every state to Up, with the words of P9: own 850001, partner A90001 (hex). It shows that the steps lead
--- somewhere, and is one of the two pasts in WorkedPasts.
+-- somewhere, and is one of the three pasts in WorkedPasts.
 use Prim.Native.Nat.{ℕ, _^_}
 use mathlib.Core.Path.{_≡_}
 use mathlib.Core.Bool.{true, false}
@@ -20,9 +20,12 @@ use Rattle.port_step.specs.Steps.{saysTo, afterAll}
 abbrev pub pageFrom : (reading word : ℕ) → List Event
 pageFrom reading word = map Edge (readings lsmMode word reading)
 
--- A2 is advertised, and negotiation is enabled;
+-- A2 is advertised, and negotiation is enabled, at a reading;
+abbrev pub enabledAt : (reading : ℕ) → List Event
+enabledAt reading = Write reading 515 0x80 ∷ Write reading 512 (2 ^ 12) ∷ []
+
 abbrev pub toBreak : List Event
-toBreak = Write 0 515 0x80 ∷ Write 0 512 (2 ^ 12) ∷ []
+toBreak = enabledAt 0
 
 -- the break timer is out, with 5 drawn, so that the own page is 850001;
 abbrev pub toAbility : List Event

@@ -4,9 +4,11 @@ pub mod TwoPasts
 pub mod WorkedPasts
 pub mod Table
 pub mod FirstLink
+pub mod NextPageLinks
 pub mod Refusals
 pub mod AtTheDevice
 pub mod MadeByCalls
+pub mod NextPageFacts
 pub mod OneAnswer
 pub mod NotMade
 pub mod Demands

@@ -2,9 +2,9 @@
 -- part of a device are public too, for other crates, and can make any record; some that no events make are in `NotMade`.)
 use Prim.Native.Nat.{ℕ, _^_, _<_, _≤_}
 use mathlib.Core.Path.{_≡_}
-use mathlib.Core.Bool.{Bool, true, false, not, _&&_}
+use mathlib.Core.Bool.{Bool, true, false, not, _&&_, _||_}
 use mathlib.Core.List.{List, [], _∷_}
-use Rattle.answers.specs.Choices.{_<?_, _=?_}
+use Rattle.answers.specs.Choices.{_=?_}
 use Rattle.page_word.specs.Word.{isWide, among}
 use Rattle.page_word.specs.Fields.{hasOtherSelector, isTie}
 use Rattle.line_mode.specs.Modes.{lsmMode}
@@ -12,39 +12,33 @@ use Rattle.line_page.specs.Pattern.{standsAt, has}
 use Rattle.line_reader.specs.declared.reader.Reader.{Reader}
 use Rattle.line_reader.specs.declared.reader.Reader.the-variants.{Fresh, Open, Dropping}
 use Rattle.port_state.specs.declared.State.{State}
-use Rattle.port_state.specs.declared.State.the-variants.{Complete, Up}
+use Rattle.port_state.specs.declared.State.the-variants.{Complete, CheckLink, Up}
 use Rattle.port_state.specs.declared.Outcome.{Outcome}
 use Rattle.port_state.specs.declared.Outcome.the-variants.{NoneYet, Resolved}
 use Rattle.port_state.specs.declared.Device.{Device}
+use Rattle.port_state.specs.declared.rounds.Round.{Round}
 use Rattle.port_state.specs.Memory.{byState, isTalking}
+use Rattle.port_state.specs.Rounds.{byRound, isBase, isFirst}
 use Rattle.port_timing.specs.Sending.{hasRate}
 use Rattle.port_step.specs.declared.events.Event.{Event}
 use Rattle.port_step.specs.declared.events.Event.the-variants.{Edge, Tick, Sent, Report, Read, Write, Unnamed}
 use Rattle.port_step.specs.Steps.{stepDue}
-use Rattle.port_step.specs.Runs.{eventsOf}
 use Rattle.promises.specs.AtTheDevice.{after}
 
--- 01, "Registers (MMD 7)": "All are 16 bits wide". The value of a write has 16 bits, by its type in the code (`u16`).
-abbrev pub valueFits : Event → Bool
-valueFits (Edge reading) = true
-valueFits (Tick reading draw) = true
-valueFits (Sent reading) = true
-valueFits (Report reading up) = true
-valueFits (Read reading register) = true
-valueFits (Write reading register value) = value <? 2 ^ 16
-valueFits Unnamed = true
-
-unfoldable pub allFit : List Event → Bool
-allFit [] = true
-allFit (e ∷ later) = valueFits e && allFit later
-
--- The states in which a held page is looked at;
+-- Ack and Complete: there a page of the partner's is held, at every round;
 abbrev pub isAckOrComplete : State → Bool
 isAckOrComplete state = byState state false false false true true false false
 
 -- those in which there is an outcome.
 abbrev pub hasOutcome : State → Bool
 hasOutcome state = byState state false false false false false true true
+
+-- Where, of Ability, Ack and Complete, the partner's base page is held: in the last two, and in Ability too once Next Pages are exchanged.
+abbrev pub holdsPage : State → Round → Bool
+holdsPage state round = isAckOrComplete state || (isTalking state && not (isBase round))
+
+abbrev pub isLater : Round → Bool
+isLater round = byRound round false false true
 
 abbrev pub isResolved : Outcome → Bool
 isResolved NoneYet = false
@@ -62,12 +56,20 @@ pub record IsPage (word : ℕ) : Type 0 where
   pub selector : hasOtherSelector word ≡ false
 
 pub record Made (d : Device) : Type 0 where
-  -- In Ability, Ack and Complete the own page is a word with selector 1; in Ack and Complete the held page too, with another nonce.
+  -- In Ability, Ack and Complete the own base page is a word with selector 1; where one is held, the partner's is too, with another nonce.
   pub own : isTalking (d .state) ≡ true → IsPage (d .link .talk .own)
-  pub held : isAckOrComplete (d .state) ≡ true → IsPage (d .link .talk .held)
-  pub no-tie : isAckOrComplete (d .state) ≡ true → isTie (d .link .talk .own) (d .link .talk .held) ≡ false
-  -- In Complete at most two pages have been counted.
-  pub count : d .state ≡ Complete → d .link .talk .count ≤ 2
+  pub held : holdsPage (d .state) (d .link .next .round) ≡ true → IsPage (d .link .talk .held)
+  pub no-tie : holdsPage (d .state) (d .link .next .round) ≡ true → isTie (d .link .talk .own) (d .link .talk .held) ≡ false
+  -- The own Next Page, and the one that 520-522 have, are words; so is what is advertised.
+  pub own-next : isWide (d .link .next .own) ≡ false
+  pub transmit : isWide (d .link .next .transmit) ≡ false
+  pub advertised : isWide (d .lasting .advertised) ≡ false
+  -- 523-525 are zero at rounds base and first: a base page never stands there.
+  pub none-heard : isLater (d .link .next .round) ≡ false → d .link .next .heard ≡ 0
+  -- In Ack and Complete the round is never first: to get there the partner's page of the round was held.
+  pub round : isAckOrComplete (d .state) ≡ true → isFirst (d .link .next .round) ≡ false
+  -- In Complete at most three pages have been counted.
+  pub count : d .state ≡ Complete → d .link .talk .count ≤ 3
   -- Outside Ability, Ack and Complete no page is out.
   pub none-out : isTalking (d .state) ≡ false → d .link .talk .out ≡ false
   -- There is an outcome just in Check-link and Up, so a settled one only there; in Up it is settled.
@@ -76,10 +78,10 @@ pub record Made (d : Device) : Type 0 where
   -- An open attempt stands at a position of a page, before the last.
   pub reader : standsRight (d .link .reader) ≡ true
 
--- The kinds of answer that each event may have: nothing, refusals by their numbers in 01's table, and of the others 0x80 a page, 0x81 a page ordered, 0x82
+-- The kinds of answer that each event may have: nothing, refusals by their numbers in 01's table as amended, and of the others 0x80 a page, 0x81 a page ordered, 0x82
 -- settled, 0x83 a register's value.
 abbrev pub kindsFor : Event → List ℕ
-kindsFor (Edge reading) = 0 ∷ 1 ∷ 2 ∷ 3 ∷ 4 ∷ 5 ∷ 6 ∷ 7 ∷ 0x80 ∷ []
+kindsFor (Edge reading) = 0 ∷ 1 ∷ 2 ∷ 3 ∷ 4 ∷ 5 ∷ 6 ∷ 7 ∷ 17 ∷ 0x80 ∷ []
 kindsFor (Tick reading draw) = 0 ∷ 0x81 ∷ []
 kindsFor (Sent reading) = 0 ∷ 8 ∷ 9 ∷ 11 ∷ 0x82 ∷ []
 kindsFor (Report reading up) = 0 ∷ []
@@ -88,12 +90,10 @@ kindsFor (Write reading register value) = 0 ∷ 10 ∷ []
 kindsFor Unnamed = 0 ∷ []
 
 pub record MadeByCalls : Type 0 where
-  pub made : (events : List Event) → allFit events ≡ true → Made (after events)
-  -- "4, 5 or 13 as well (these only on a record that no call has made)": the third page sent in Complete answers None, Roles or settled,
-  pub third-sent : (events : List Event) (reading : ℕ) → allFit events ≡ true → after events .state ≡ Complete → after events .link .talk .out ≡ true
-      → after events .link .talk .count ≡ 2 → among (stepDue (Sent reading) (after events) .says .kind) (8 ∷ 9 ∷ 0x82 ∷ []) ≡ true
+  pub made : (events : List Event) → Made (after events)
+  -- "4, 5 or 13 as well (these only on a record that no call has made)": a page sent that takes a device from Complete to Check-link answers None, Roles or settled,
+  pub settling : (events : List Event) (reading : ℕ) → after events .state ≡ Complete → stepDue (Sent reading) (after events) .device .state ≡ CheckLink
+      → among (stepDue (Sent reading) (after events) .says .kind) (8 ∷ 9 ∷ 0x82 ∷ []) ≡ true
   -- and each event has an answer of one of its kinds, with a value below 2^48: as one number of 64 bits it loses nothing.
-  pub kinds : (events : List Event) (e : Event) → allFit events ≡ true → among (stepDue e (after events) .says .kind) (kindsFor e) ≡ true
-  pub values : (events : List Event) (e : Event) → allFit events ≡ true → stepDue e (after events) .says .value < 2 ^ 48
-  -- The events of a run, whatever the cells, all fit.
-  pub run : (cells : List ℕ) → allFit (eventsOf cells) ≡ true
+  pub kinds : (events : List Event) (e : Event) → among (stepDue e (after events) .says .kind) (kindsFor e) ≡ true
+  pub values : (events : List Event) (e : Event) → stepDue e (after events) .says .value < 2 ^ 48

@@ -16,8 +16,9 @@ use Rattle.line_reader.specs.Reading.{step, edgeOf}
 use Rattle.port_state.specs.declared.Device.{Device}
 use Rattle.port_state.specs.declared.State.the-variants.{Ability, Complete, CheckLink, Up}
 use Rattle.port_state.specs.declared.Outcome.the-variants.{Resolved}
+use Rattle.port_state.specs.declared.rounds.Round.the-variants.{First}
 use Rattle.port_state.specs.Memory.{due, freshDevice}
-use Rattle.port_state.specs.Changes.{withState, withOwn, withHeld, withOut, withCount, markWaiting, withTimer, withOutcome, withReader}
+use Rattle.port_state.specs.Changes.{withState, withOwn, withHeld, withOut, withCount, markWaiting, withTimer, withOutcome, withReader, withOwnNext, withRound}
 use Rattle.port_step.specs.declared.events.Event.the-variants.{Edge, Tick, Sent}
 use Rattle.port_step.specs.Steps.{stepDue}
 use Rattle.promises.specs.MadeByCalls.{Made}
@@ -26,7 +27,7 @@ use Rattle.promises.specs.MadeByCalls.{Made}
 abbrev pub completeWith : (own held count : ℕ) → Device
 completeWith own held count = withState Complete (withOut true (withCount count (withHeld held (withOwn own freshDevice))))
 
--- an own page of 2^48; one with selector 0; two equal nonces, both 5; a count of three.
+-- an own page of 2^48; one with selector 0; two equal nonces, both 5; a count of four.
 abbrev pub wideOwn : Device
 wideOwn = completeWith (2 ^ 48) 0xA90001 2
 
@@ -36,8 +37,12 @@ selectorZero = completeWith 0x850000 0xA90001 2
 abbrev pub equalNonces : Device
 equalNonces = completeWith 0x850001 0xA50001 2
 
-abbrev pub countOfThree : Device
-countOfThree = completeWith 0x850001 0xA90001 3
+abbrev pub countOfFour : Device
+countOfFour = completeWith 0x850001 0xA90001 4
+
+-- A device in Complete at round first: on the way to Ack a Next Page of the partner's is held, and the round is later.
+abbrev pub firstInComplete : Device
+firstInComplete = withRound First (withOwnNext 0x2801 (completeWith 0x850001 0x898001 2))
 
 -- A device in Up with a page out.
 abbrev pub outInUp : Device
@@ -47,7 +52,7 @@ outInUp = withState Up (withOutcome (Resolved (Settled 2 false)) (withOut true f
 abbrev pub at156 : Device
 at156 = withState Ability (withReader (Open 156 0 0) (withOwn 0x850001 freshDevice))
 
--- "at three, resolve own and held page, answer and keep the outcome, go to Check-link, starting the inhibit timer", when a page is sent at 1000. The page is no
+-- "resolve own and held *base* page": "answer and keep the outcome, go to Check-link, starting the inhibit timer", when a page is sent at 1000. The page is no
 -- longer out, the mark is "waiting", and the count is 3.
 abbrev pub Resolves : Device → Resolution → Type 0
 Resolves d resolution =
@@ -55,19 +60,23 @@ Resolves d resolution =
     ≡ due (saidOf resolution) (withState CheckLink (withOutcome (Resolved resolution) (withTimer 1000 (withCount 3 (markWaiting 1000 (withOut false d))))))
 
 pub record NotMade : Type 0 where
-  -- No events from fresh on, with values of 16 bits, make one of them: they are not as `made` of `MadeByCalls` has it.
+  -- No events from fresh on make one of them: they are not as `made` of `MadeByCalls` has it.
   pub no-wide-own : Made wideOwn → ⊥
   pub no-selector-zero : Made selectorZero → ⊥
   pub no-equal-nonces : Made equalNonces → ⊥
-  pub no-count-of-three : Made countOfThree → ⊥
+  pub no-count-of-four : Made countOfFour → ⊥
+  pub no-first-in-complete : Made firstInComplete → ⊥
   pub no-page-out-in-up : Made outInUp → ⊥
   pub no-reader-at-156 : Made at156 → ⊥
   -- "In Complete a refusal of resolving, 4, 5 or 13 as well (these only on a record that no call has made), goes to Check-link without a rate."
   pub wide : Resolves wideOwn (Refused refusal.Wide)
   pub selector : Resolves selectorZero (Refused refusal.Selector)
   pub tie : Resolves equalNonces (Refused refusal.Tie)
-  -- "Each page sent adds one; at three, resolve": 01 does not name a count that is more; the definition resolves there too, and leaves 3.
-  pub count : Resolves countOfThree (Settled 2 false)
+  -- "Each page sent adds one, up to three." A count that is more is not named; the definition resolves there too, and leaves 3.
+  pub count : Resolves countOfFour (Settled 2 false)
+  -- Round first in Complete: the held page is the base page, whose NP is one, so the Null message is next; "round base becomes first", and first stays.
+  pub first : stepDue (Sent 1000) firstInComplete
+      ≡ due nothing (withState Ability (withOwnNext 0x2001 (withCount 3 (markWaiting 1000 (withOut false firstInComplete)))))
   -- A page out in Up: "Sent ends it and marks waiting" there too, nothing is answered, and Up stays. "edges ignored"; a tick is not named.
   pub sent-in-up : stepDue (Sent 1000) outInUp ≡ due nothing (markWaiting 1000 (withOut false outInUp))
   pub edge-in-up : stepDue (Edge 1000) outInUp ≡ due nothing outInUp

@@ -17,7 +17,6 @@ use Rattle.line_mode.specs.declared.modes.Found.{Found}
 use Rattle.line_mode.specs.declared.modes.Judgement.{Judgement}
 use Rattle.line_mode.specs.Gaps.{saidOfGap}
 use Rattle.line_captures.specs.declared.captures.ReadOutcome.{ReadOutcome}
-use Rattle.port_state.specs.declared.page_registers.PageRegisters.{PageRegisters}
 use Rattle.port_state.specs.declared.Device.{Device}
 use Rattle.port_state.specs.declared.Reply.{Reply}
 use Rattle.port_state.specs.Memory.{Due, Meets}
@@ -35,7 +34,7 @@ Single A = (first second due : A) → first ≡ due → second ≡ due → first
 -- `tools/contract-forms` checks that there is no other.
 pub record NoSecondAnswer : Type 0 where
   -- What a contract says outright: a number, yes or no, a lent list afterwards; a mode, and whether a number names one; what a gap is; what an edge brings to a
-  -- reader; what reading a capture brings; what resolving comes to; a page's registers; a device.
+  -- reader; what reading a capture brings; what resolving comes to; a device.
   pub number : Single ℕ
   pub test : Single Bool
   pub list : Single (List ℕ)
@@ -45,7 +44,6 @@ pub record NoSecondAnswer : Type 0 where
   pub step : Single Step
   pub read : Single ReadOutcome
   pub resolved : Single Resolution
-  pub registers : Single PageRegisters
   pub device : Single Device
   -- An answer of which a contract says what it says.
   pub answer : (first second : Answer) (due : Said) → abilityIsByte first ≡ true → abilityIsByte second ≡ true → said first ≡ due → said second ≡ due → first ≡ second

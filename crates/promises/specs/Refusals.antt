@@ -1,4 +1,4 @@
--- 01, "Refusal numbers": for each number of the table an input that is refused with it, worked out, and what is left, as its last column has it.
+-- 01, "Refusal numbers", and request 7: for each number of the table an input that is refused with it, worked out, and what is left, as its last column has it.
 use Prim.Native.Nat.{ℕ, _+_, _^_}
 use mathlib.Core.Path.{_≡_}
 use mathlib.Core.Bool.{true, false}
@@ -25,6 +25,7 @@ use Rattle.port_step.specs.Runs.{runOf}
 use Rattle.bench_listing.specs.Words.{text}
 use Rattle.bench_listing.specs.Listing.{listing}
 use Rattle.promises.specs.FirstLink.{pageFrom, toBreak, toAbility, toAck, threeSent, stateAfter}
+use Rattle.promises.specs.NextPageLinks.{WrongToggle}
 
 -- Events from a fresh device on: all that is said on the way, and the state that is left.
 pub record Run (events : List Event) (says : List Said) (state : State) : Type 0 where
@@ -85,8 +86,8 @@ pub record EachRefusal : Type 0 where
   -- 9, Roles: both forced, and T4 is 0 on both sides (P10).
   pub roles : Run (settlingWith 0x1000 0x80 0xA91001)
       (pageRead 0xA91001 ∷ pageRead 0xA950A1 ∷ pageOrdered 0x855121 ∷ pageOrdered 0x855121 ∷ pageOrdered 0x855121 ∷ refused Roles ∷ []) CheckLink
-  -- 10, Register: "not 512-519; state kept"
-  pub register-read : Kept toAck (Read 8200000 520) Register
+  -- 10, Register: "not 512-525", as amended; "state kept"
+  pub register-read : Kept toAck (Read 8200000 526) Register
   pub register-written : Kept toAck (Write 8200000 511 1) Register
   -- 11, Turn: "sent in Off or Break, or with no page out; kept"
   pub turn-off : Kept [] (Sent 0) Turn
@@ -107,3 +108,5 @@ pub record EachRefusal : Type 0 where
   pub wide-next : ListKept 0 [] 0 (2 ^ 48) Wide
   -- 15, Odd: "program only": three bytes after the mode's are listed as `refused 15`.
   pub odd : listing (0 ∷ 0 ∷ 0 ∷ 0 ∷ []) ≡ text "refused 15\n"
+  -- 17, Toggle: "17 Toggle (Break)"
+  pub toggle : WrongToggle

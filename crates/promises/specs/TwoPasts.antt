@@ -9,6 +9,8 @@ use Rattle.answers.specs.Choices.{if_then_else_, _=?_}
 use Rattle.answers.specs.Answers.{Said, saying, pageOrdered}
 use Rattle.page_word.specs.Word.{hasBit}
 use Rattle.page_word.specs.Fields.{withPart}
+use Rattle.page_word.specs.declared.thirds.Third.the-variants.{Low, Middle, High}
+use Rattle.page_word.specs.Thirds.{thirdOf}
 use Rattle.line_mode.specs.Clock.{timeBetween}
 use Rattle.port_state.specs.declared.Device.{Device}
 use Rattle.port_state.specs.Memory.{freshDevice, isBreak}
@@ -16,7 +18,6 @@ use Rattle.port_registers.specs.Registers.{readDue}
 use Rattle.port_step.specs.declared.events.Event.{Event}
 use Rattle.port_step.specs.declared.events.Event.the-variants.{Edge, Tick, Sent, Report, Read, Write, Unnamed}
 use Rattle.port_step.specs.Steps.{stepDue, saysTo, afterAll}
-use Rattle.port_state.specs.declared.page_registers.PageRegisters.{PageRegisters}
 
 -- 01, "Registers": a write to 512 with bit 12, enable, and bit 9 "goes to Break" from Break too. (With bit 15 as well the device is fresh and Off.)
 abbrev pub restarts : Event → Bool
@@ -119,9 +120,10 @@ NoPageOutlivesItsLink =
     → Same (deviceOf first) later (deviceOf second) (map (shiftedBy (difference first second)) later)
 
 -- What demand 3 comes to for one module. A new device: fresh, then 7.514-7.516 are written and it is enabled, all at one reading. It has never heard a page.
-abbrev pub switchedOn : (reading : ℕ) → PageRegisters → List Event
-switchedOn reading a =
-    Write reading 514 (a .low) ∷ Write reading 515 (a .middle) ∷ Write reading 516 (a .high) ∷ Write reading 512 (2 ^ 12) ∷ []
+abbrev pub switchedOn : (reading advertised : ℕ) → List Event
+switchedOn reading advertised =
+    Write reading 514 (thirdOf Low advertised) ∷ Write reading 515 (thirdOf Middle advertised) ∷ Write reading 516 (thirdOf High advertised)
+    ∷ Write reading 512 (2 ^ 12) ∷ []
 
 -- A module with any past that has just gone into Break gives the same answers, register values and ordered pages to any later events as a
 -- new one with the same advertisement, switched on at that reading: what it says is what it would say had it never heard a page. The only trace that
