@@ -35,8 +35,23 @@ pub fn write(now: u32, register: u64, value: u16) -> EventCells {
 
 /// The registers 514 to 516, each with the value that makes a device advertise this word.
 pub fn advertising(word: u64) -> [(u64, u16); 3] {
+    in_three_registers(514, word)
+}
+
+/// The registers of the own Next Page, each with its value for this word. The write of 520
+/// loads the page, so it is the last one.
+pub fn loading(word: u64) -> [(u64, u16); 3] {
+    let [low, middle, high] = in_three_registers(520, word);
+    [high, middle, low]
+}
+
+fn in_three_registers(first: u64, word: u64) -> [(u64, u16); 3] {
     let part = |lowest: u32| (word >> lowest) as u16;
-    [(514, part(0)), (515, part(16)), (516, part(32))]
+    [
+        (first, part(0)),
+        (first + 1, part(16)),
+        (first + 2, part(32)),
+    ]
 }
 
 /// The register of a read or a write.

@@ -9,8 +9,8 @@ use crate::event::{self, EventCells, EDGE, LINK, READ, SENT, TICK, WRITE};
 use crate::history::History;
 use crate::random::Random;
 use crate::words;
-use reference::device::registers::{CONTROL, ENABLE, RESET, RESTART, STATUS};
-use reference::device::State;
+use reference::device::registers::{CONTROL, ENABLE, OWN_NEXT_PAGE, RESET, RESTART, STATUS};
+use reference::device::{Round, State};
 use reference::line_mode::LSM;
 use reference::word::{ACK, ECHOED_NONCE, NONCE};
 
@@ -25,6 +25,8 @@ pub struct Run<'a> {
     most_events: usize,
     /// Whether the bits that are not looked at are set at random.
     is_wide: bool,
+    /// Whether little happens that does not lead on, so that the run leads far.
+    is_calm: bool,
 }
 
 /// A random run of exactly so many events.
@@ -46,12 +48,14 @@ impl Run<'_> {
             _ => 0,
         };
         let is_wide = random.once_in(4);
+        let is_calm = random.once_in(2);
         Run {
             history: History::default(),
             random,
             now,
             most_events,
             is_wide,
+            is_calm,
         }
     }
 
@@ -67,6 +71,10 @@ impl Run<'_> {
 
     pub fn state(&self) -> State {
         self.history.device.state()
+    }
+
+    pub fn now(&self) -> u32 {
+        self.now
     }
 
     /// The nonce of the page that the device sends in this round.
@@ -120,16 +128,21 @@ impl Run<'_> {
 
     /// A sensible event most times, else any other.
     pub fn next(&mut self) {
-        match self.random.below(20) {
-            0..=11 => self.go_on(),
-            12 => self.stray_events(),
-            13 => self.use_a_register(),
-            14 => self.tick_near_the_time(),
-            15 => self.wrong_page(),
-            16 => self.stray_edges(),
-            17 if self.random.once_in(2) => self.write_control(),
-            17 => self.read_status(),
-            18 if self.random.once_in(4) => self.jump(),
+        if self.is_calm && !self.random.once_in(4) {
+            return self.go_on();
+        }
+        match self.random.below(40) {
+            0..=24 => self.go_on(),
+            25..=27 => self.stray_events(),
+            28 | 29 => self.use_registers(),
+            30 | 31 => self.tick_near_the_time(),
+            32 | 33 => self.wrong_page(),
+            34 => self.stray_edges(),
+            35 => self.read_status(),
+            36 if self.random.once_in(2) => self.write_control(),
+            37 if self.random.once_in(4) => self.jump(),
+            37 | 38 => self.tick_near_lost(),
+            39 => self.load_any_next_page(),
             _ => self.pass_up_to(50_000),
         }
     }
@@ -137,22 +150,89 @@ impl Run<'_> {
     /// What brings the device on towards Up, and from there back to Break.
     pub fn go_on(&mut self) {
         match self.state() {
+            State::Off if self.random.once_in(3) => self.use_registers(),
+            State::Off if self.random.once_in(6) => self.go_off_once_more(),
             State::Off => self.enable(),
+            State::Ability if self.is_at_round_later() && self.random.once_in(8) => self.linger(),
             State::Ability | State::Ack if self.history.device.page_is_out() => self.send(),
             State::Ability | State::Ack => self.order_or_hear(),
             State::Complete if self.history.device.page_is_out() => self.send(),
+            State::Complete if self.history.device.is_holding() => self.go_on_in_the_hold(),
+            State::Break if self.random.once_in(3) => self.load_any_next_page(),
             State::Break | State::Complete => self.tick_when_due(),
             State::CheckLink if self.random.once_in(5) => self.tick_when_due(),
+            State::CheckLink if self.random.once_in(4) => self.linger(),
             State::CheckLink => self.report_link(true),
-            State::Up if self.random.once_in(2) => self.stray_events(),
+            State::Up if self.random.once_in(2) => self.linger(),
             State::Up => self.report_link(false),
         }
     }
 
-    /// Goes on until the device is in this state. The advertisement must have a rate.
-    pub fn go_on_to(&mut self, state: State) {
-        while self.state() != state {
+    /// Going off forgets what was loaded, also where the device is off.
+    fn go_off_once_more(&mut self) {
+        self.load_any_next_page();
+        let restart = self.random.pick(&[0, RESTART]);
+        self.write(CONTROL, restart);
+        for register in OWN_NEXT_PAGE {
+            self.give(READ, register);
+        }
+    }
+
+    fn is_at_round_later(&self) -> bool {
+        self.history.device.round() == Round::Later
+    }
+
+    /// What would hardly happen in a state that is soon left.
+    fn linger(&mut self) {
+        match self.random.below(8) {
+            0 => self.write_control(),
+            1..=3 => self.use_registers(),
+            4 => self.tick_near_lost(),
+            _ => self.stray_events(),
+        }
+    }
+
+    /// Goes on until the device is in this state, at this round if one is named. The
+    /// advertisement must have a rate.
+    pub fn go_on_to(&mut self, state: State, round: Option<Round>) {
+        while !self.is_in(state, round) {
             self.go_on();
+        }
+    }
+
+    pub fn is_in(&self, state: State, round: Option<Round>) -> bool {
+        let is_this_round = |round| self.history.device.round() == round;
+        self.state() == state && round.is_none_or(is_this_round)
+    }
+
+    /// The device waits for another Next Page to be loaded. It sends its page once more,
+    /// or hears the partner's, so that it does not take the partner for lost.
+    fn go_on_in_the_hold(&mut self) {
+        match self.random.below(4) {
+            0 => self.load_any_next_page(),
+            1 => {
+                let word = self.right_page();
+                self.hear_page(word);
+            }
+            _ => self.tick_when_due(),
+        }
+    }
+
+    fn load_any_next_page(&mut self) {
+        let word = words::next_page(self.random);
+        self.load(word);
+    }
+
+    /// Writes a Next Page into its registers, sometimes not all of it, or in another order.
+    fn load(&mut self, word: u64) {
+        let mut writes = event::loading(word);
+        match self.random.below(6) {
+            0 => writes.reverse(),
+            1 => return self.write(writes[2].0, writes[2].1),
+            _ => {}
+        }
+        for (register, value) in writes {
+            self.write(register, value);
         }
     }
 
@@ -218,6 +298,35 @@ impl Run<'_> {
         }
     }
 
+    /// Ticks just before, exactly at and just after the reading at which the partner is
+    /// lost, or only one of them: a tick before it may order a page, and then it is not
+    /// looked at.
+    fn tick_near_lost(&mut self) {
+        let Some(lost_at) = self.history.device.lost_at() else {
+            return;
+        };
+        if self.history.device.page_is_out() && self.random.once_in(2) {
+            self.give(SENT, 0);
+        }
+        let before = self.random.pick(&[2, 1, 0, 0, u32::MAX]);
+        self.now = lost_at.wrapping_sub(before);
+        for _ in 0..=self.random.below(3) {
+            self.tick();
+            self.pass(1);
+        }
+    }
+
+    /// A tick that finds the partner lost, at the first reading at which it is or some time
+    /// later. That must be looked at where the device is.
+    pub fn tick_when_lost(&mut self) {
+        let lost_at = self.history.device.lost_at();
+        self.now = lost_at.expect("the partner can be lost here");
+        if self.random.once_in(2) {
+            self.pass_up_to(100_000);
+        }
+        self.tick();
+    }
+
     /// How long the time that matters in this state still has to run.
     fn time_left(&self) -> u32 {
         let runs_out_at = self.history.device.time_runs_out_at();
@@ -264,10 +373,14 @@ impl Run<'_> {
     pub fn right_page(&mut self) -> u64 {
         let own = self.history.device.own_page();
         let held = self.history.device.held_page();
+        let is_base = self.history.device.round() == Round::Base;
         match self.state() {
             State::Ack if self.random.once_in(6) => held,
-            State::Ack => ACK.put(ECHOED_NONCE.put(held, NONCE.of(own)), 1),
-            _ => words::first_page(self.random, own),
+            State::Ack if is_base => ACK.put(ECHOED_NONCE.put(held, NONCE.of(own)), 1),
+            State::Ack => ACK.put(held, 1),
+            _ if is_base => words::first_page(self.random, own),
+            _ if self.random.once_in(4) => words::repeated_page(self.random, held),
+            _ => words::new_next_page(self.random, held),
         }
     }
 
@@ -281,8 +394,11 @@ impl Run<'_> {
             let gaps = damaged_page_gaps(self.random, &LSM, right);
             return self.hear(&gaps);
         }
-        let own = self.history.device.own_page();
-        let word = words::wrong_page(self.random, right, own);
+        let device = &self.history.device;
+        let word = match device.round() {
+            Round::Base => words::wrong_page(self.random, right, device.own_page()),
+            Round::First | Round::Later => words::wrong_next_page(self.random, device.held_page()),
+        };
         self.hear_page(word);
     }
 
@@ -290,6 +406,19 @@ impl Run<'_> {
     pub fn hear_page(&mut self, word: u64) {
         let gaps = page_gaps(self.random, &LSM, word);
         self.hear(&gaps);
+    }
+
+    /// Loads a Next Page and lets the device hear half a page, or one of them, or neither.
+    /// While a page is out the device hears nothing.
+    pub fn leave_traces(&mut self) {
+        if !self.random.once_in(3) {
+            self.load_any_next_page();
+        }
+        if !self.random.once_in(3) {
+            let word = self.right_page();
+            let gaps = page_gaps(self.random, &LSM, word);
+            self.hear(&gaps[..gaps.len() / 2]);
+        }
     }
 
     /// A few edges of some page.
@@ -304,7 +433,7 @@ impl Run<'_> {
         for _ in 0..=self.random.below(3) {
             self.pass_up_to(5000);
             let kind = match self.random.below(8) {
-                7 => self.random.pick(&[6, 7, 255, 1 << 32, u64::MAX]),
+                6 | 7 => self.random.pick(&[6, 7, 255, 1 << 32, u64::MAX]),
                 kind => kind.min(LINK),
             };
             let argument = match kind {
@@ -315,12 +444,18 @@ impl Run<'_> {
         }
     }
 
+    fn use_registers(&mut self) {
+        for _ in 0..=self.random.below(3) {
+            self.use_a_register();
+        }
+    }
+
     /// A read or a write of any register but 512, or of none that is there.
     fn use_a_register(&mut self) {
-        let register = match self.random.below(11) {
-            0 => self.random.pick(&[0, 511, 520, 1 << 31, (1 << 32) + 512]),
+        let register = match self.random.below(15) {
+            0 => self.random.pick(&[0, 511, 526, 1 << 31, (1 << 32) + 512]),
             1 => CONTROL,
-            other => STATUS + (other - 2) % 7,
+            other => STATUS + other - 2,
         };
         if register == CONTROL || self.random.once_in(2) {
             return self.give(READ, register);

@@ -4,8 +4,8 @@ use crate::generate::{few_ones, narrow_word};
 use crate::random::Random;
 use reference::resolve::RATES;
 use reference::word::{
-    ability, ACK, ECHOED_NONCE, FORCED_ROLE, HIGHEST_NONCE_BIT, NEXT_PAGE, NONCE, OUR_SELECTOR,
-    REMOTE_FAULT, SELECTOR,
+    ability, ACK, ECHOED_NONCE, FORCED_ROLE, HIGHEST_NONCE_BIT, NEXT_PAGE, NONCE, NULL_MESSAGE,
+    OUR_SELECTOR, REMOTE_FAULT, SELECTOR, TOGGLE,
 };
 
 /// The abilities of all rates.
@@ -52,14 +52,16 @@ pub fn first_page(random: &mut Random, own: u64) -> u64 {
     let once_in_four = [
         FORCED_ROLE.ones(),
         REMOTE_FAULT.ones(),
-        NEXT_PAGE.ones(),
+        TOGGLE.ones(),
         ACK.ones() | ECHOED_NONCE.put(0, NONCE.of(own)),
     ];
     let fields = once_in_four
         .into_iter()
         .filter(|_| random.once_in(4))
         .sum::<u64>();
-    NONCE.put(abilities | fields | OUR_SELECTOR, other_nonce)
+    let has_more = random.below(2);
+    let page = NEXT_PAGE.put(abilities | fields | OUR_SELECTOR, has_more);
+    NONCE.put(page, other_nonce)
 }
 
 /// A page that is wrong where the right one would be expected, or that may be: another
@@ -74,6 +76,47 @@ pub fn wrong_page(random: &mut Random, right: u64, own: u64) -> u64 {
         5 => NEXT_PAGE.put(right, any),
         6 => right ^ few_ones(random, 48),
         _ => narrow_word(random),
+    }
+}
+
+/// Any Next Page. After more than every second one another follows.
+pub fn next_page(random: &mut Random) -> u64 {
+    match random.below(6) {
+        0 => NULL_MESSAGE,
+        1 | 2 => NEXT_PAGE.put(few_ones(random, 48), 1),
+        _ => narrow_word(random),
+    }
+}
+
+/// A partner's Next Page that a device that holds this page takes as a new one.
+pub fn new_next_page(random: &mut Random, held: u64) -> u64 {
+    let page = TOGGLE.put(next_page(random), 1 - TOGGLE.of(held));
+    match random.once_in(6) {
+        true => page,
+        false => ACK.put(page, 0),
+    }
+}
+
+/// The held page once more, acknowledging or not. The echo differs sometimes, which only
+/// a base page may.
+pub fn repeated_page(random: &mut Random, held: u64) -> u64 {
+    let any = random.any_number();
+    match random.below(4) {
+        0 => held,
+        1 => ECHOED_NONCE.put(held, any),
+        _ => ACK.put(held, any),
+    }
+}
+
+/// A page that a device with this held page may not take where Next Pages are exchanged:
+/// the same toggle, one bit of the held page changed, or an acknowledgement too early.
+pub fn wrong_next_page(random: &mut Random, held: u64) -> u64 {
+    let one_bit = 1 << random.below(48);
+    match random.below(4) {
+        0 => TOGGLE.put(next_page(random), TOGGLE.of(held)),
+        1 => held ^ one_bit,
+        2 => ACK.put(held ^ one_bit, 1),
+        _ => ACK.put(new_next_page(random, held), 1),
     }
 }
 

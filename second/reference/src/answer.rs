@@ -30,6 +30,8 @@ pub const ROOM: u64 = refusal(12);
 pub const WIDE: u64 = refusal(13);
 /// Refusal 14: the mode is neither 0 nor 1.
 pub const MODE: u64 = refusal(14);
+/// Refusal 17: the Next Page has the same toggle as the page that is held.
+pub const TOGGLE: u64 = refusal(17);
 /// The gap is at the quiet limit or longer.
 pub const QUIET: u64 = 0x85 << 56;
 /// The gap is neither a number of positions nor quiet.
@@ -112,6 +114,7 @@ mod tests {
         assert_eq!(ROOM, 0x0C00_0000_0000_0000);
         assert_eq!(WIDE, 0x0D00_0000_0000_0000);
         assert_eq!(MODE, 0x0E00_0000_0000_0000);
+        assert_eq!(TOGGLE, 0x1100_0000_0000_0000);
         assert_eq!(number(81), 0x8400_0000_0000_0051);
         assert_eq!(QUIET, 0x8500_0000_0000_0000);
         assert_eq!(UNFIT, 0x8600_0000_0000_0000);

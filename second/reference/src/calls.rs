@@ -172,7 +172,7 @@ mod tests {
 
     #[test]
     fn a_run_answers_every_event_and_skips_unknown_kinds() {
-        let events = [[4, 0, 513], [6, 0, 513], [4, 1 << 40, 520], [2, 0, 0]];
+        let events = [[4, 0, 513], [6, 0, 513], [4, 1 << 40, 526], [2, 0, 0]];
         let answers = [answer::register(8), 0, answer::REGISTER, answer::TURN];
         assert_eq!(run(&events), answers);
         assert_eq!(run(&[]), []);

@@ -1,4 +1,5 @@
-//! A second program for the page, the line and the negotiation, written from document 01 alone.
+//! A second program for the page, the line and the negotiation, written from document 01
+//! and its amendments alone.
 //!
 //! It is made to be read and believed, not to be fast: every rule of 01 stands here
 //! once, in the shape in which 01 says it.

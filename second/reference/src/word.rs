@@ -8,6 +8,8 @@ pub struct Field {
 
 pub const SELECTOR: Field = Field::new(0, 5);
 pub const ECHOED_NONCE: Field = Field::new(5, 5);
+/// The higher bit of a base page's pause is at the place of a Next Page's toggle.
+pub const TOGGLE: Field = Field::new(11, 1);
 pub const FORCED_ROLE: Field = Field::new(12, 1);
 pub const REMOTE_FAULT: Field = Field::new(13, 1);
 pub const ACK: Field = Field::new(14, 1);
@@ -18,6 +20,9 @@ pub const HIGHEST_NONCE_BIT: Field = Field::new(20, 1);
 
 /// The one selector that is taken.
 pub const OUR_SELECTOR: u64 = 1;
+
+/// The Next Page of an end that has nothing to say: a message page with the code 1.
+pub const NULL_MESSAGE: u64 = 0x2001;
 
 /// The ability with this number, A0 being D21.
 pub const fn ability(number: u32) -> Field {
@@ -57,6 +62,7 @@ mod tests {
     fn the_fields_lie_where_01_says() {
         assert_eq!(SELECTOR.ones(), 0x1F);
         assert_eq!(ECHOED_NONCE.ones(), 0x3E0);
+        assert_eq!(TOGGLE.ones(), 0x800);
         assert_eq!(FORCED_ROLE.ones(), 0x1000);
         assert_eq!(REMOTE_FAULT.ones(), 0x2000);
         assert_eq!(ACK.ones(), 0x4000);

@@ -4,7 +4,7 @@
 use compare::agreement::{assert_agreement, drives_answers};
 use compare::call::Call;
 use compare::history::Step;
-use compare::joined::{Joined, Side, LEFT, RIGHT};
+use compare::joined::{Joined, Module, Side, LEFT, RIGHT};
 use compare::random::Random;
 use compare::tally::Tally;
 use compare::windows::{runs_in_windows, WINDOWS};
@@ -79,7 +79,8 @@ fn settle_twice(random: &mut Random, rate: &Rate, swap: Swap) -> Joined {
         Swap::HeadWithoutRate => (fitting & !all_rates(), RIGHT),
         _ => (fitting, random.pick(&[LEFT, RIGHT])),
     };
-    joined.enable_both(left, right);
+    let [first, second] = [left, right].map(Module::without_host);
+    joined.put_in_both(&first, &second);
     assert!(joined.run_until(TIME_TO_SETTLE, reached), "{swap:?}");
     let stays = [left, right][1 - swapped];
     let newcomer = module_that_fits(random, stays);
@@ -88,7 +89,7 @@ fn settle_twice(random: &mut Random, rate: &Rate, swap: Swap) -> Joined {
         Swap::WhenUp => 0,
         _ => inhibit(&joined, 1 - swapped) - random.below(12 * MILLISECOND),
     };
-    joined.swap_head(takes, swapped, newcomer);
+    joined.swap_head(takes, swapped, &Module::without_host(newcomer));
     let most = takes + 20 * MILLISECOND + TIME_TO_SETTLE;
     let both_parted = |joined: &Joined| !joined.sides.iter().any(is_in_a_link);
     assert!(joined.run_until(most, both_parted), "{swap:?}");
@@ -206,8 +207,9 @@ fn count_settlings(lefts_answers: &[u64], met: &mut Tally) {
 #[test]
 fn two_devices_in_step_never_meet() {
     let mut joined = Joined::with_ticks_in_step(Random::new(57));
-    joined.enable(0, LEFT, ability(2).ones());
-    joined.enable(0, RIGHT, ability(2).ones());
+    let module = Module::without_host(ability(2).ones());
+    joined.put_in(0, LEFT, &module);
+    joined.put_in(0, RIGHT, &module);
     let someone_has_heard = |joined: &Joined| {
         let is_past_ability = |side: &Side| {
             !matches!(

@@ -6,8 +6,14 @@
 mod edges;
 mod every_gap;
 mod every_place;
+mod hosted_modules;
 mod joined;
+mod joined_hosts;
+mod next_page_script;
+mod next_pages_met;
+mod points_of_lost;
 mod points_of_negotiation;
+mod points_of_next_pages;
 mod points_of_registers;
 mod protocol;
 mod random_calls;

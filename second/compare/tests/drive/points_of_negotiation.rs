@@ -7,28 +7,10 @@ use crate::script::{
     OWN, OWN_ACK, PAGE_TIME, PARTNER, PARTNER_ACK, RESTART, STATUS,
 };
 use reference::answer::{
-    good, ordered, settled, CHANGED, CHECK, CUT, ECHO, GAP, NONE, NOTHING, ROLES, SELECTOR, TIE,
-    TURN,
+    good, ordered, settled, CHANGED, CUT, ECHO, GAP, NONE, NOTHING, ROLES, SELECTOR, TIE, TURN,
 };
 use reference::line_mode::LSM;
 use reference::page::{readings, transitions};
-
-/// The edges of a page with one bit of its check bits flipped: position 154 is the last
-/// of them, and the check bits of this word end with a zero.
-fn page_with_a_wrong_check(script: &mut Script, word: u64) {
-    let mut positions = transitions(&LSM, word);
-    let place = positions
-        .binary_search(&154)
-        .expect_err("the last check bit is 0");
-    positions.insert(place, 154);
-    let first = script.now();
-    let (last, before) = positions.split_last().expect("a page has edges");
-    let reading = |position: usize| first + (position as u32 - 1) * 800;
-    for position in before {
-        script.at(reading(*position)).edge(NOTHING);
-    }
-    script.at(reading(*last)).edge(CHECK);
-}
 
 #[test]
 fn point_21_gap_cut_and_check_come_out_of_the_device() {
@@ -42,7 +24,7 @@ fn point_21_gap_cut_and_check_come_out_of_the_device() {
         script.after(800).edge(NOTHING);
         script.after(100).edge(GAP);
         script.after(5000);
-        page_with_a_wrong_check(&mut script, 0);
+        script.page_with_a_wrong_check(0);
         scripts.push(script);
     }
     assert_all_hold(scripts);
@@ -198,7 +180,7 @@ fn point_32_a_refused_page_does_not_mark_heard() {
     script.after(10_000).edge(CUT);
     script.after(100).edge(GAP);
     script.after(10_000);
-    page_with_a_wrong_check(&mut script, 0);
+    script.page_with_a_wrong_check(0);
     script.after(33_000).tick(NOTHING);
     script.at(8_349_999).tick(NOTHING);
     script.at(8_350_000).tick(ordered(OWN));

@@ -73,10 +73,11 @@ fn point_61_bit_15_makes_the_device_fresh() {
     for value in [RESET, 0xFFFF, RESET | ENABLE, RESET | RESTART] {
         for (_, mut script) in in_every_state() {
             script.advertise(0xFFFF_FFFF_FFFF);
+            script.load(0xFFFF_FFFF_FFFF);
             script.write(CONTROL, value);
             script.read(CONTROL, 0);
             script.read(STATUS, 0x0008);
-            for number in 514..=519 {
+            for number in 514..=525 {
                 script.read(number, 0);
             }
             script.sent(TURN);
@@ -97,7 +98,7 @@ fn point_62_page_received_and_remote_fault_outlive_break_and_off() {
         script.after(10_000).page(second, good(second));
         script.read(517, 0x60A1);
         script.write(CONTROL, value);
-        for number in 517..=519 {
+        for number in 517..=525 {
             script.read(number, 0);
         }
         script.read(STATUS, 0x0058);
@@ -187,13 +188,15 @@ fn point_67_outside_up_the_latch_is_clear() {
 #[test]
 fn point_68_writes_answer_nothing_and_read_only_registers_stay() {
     let mut script = in_up();
-    for number in [513, 517, 518, 519] {
+    for number in [513, 517, 518, 519, 523, 524, 525] {
         script.write(number, 0xFFFF);
         script.write(number, 0);
     }
     script.read(517, 0x40A1);
     script.read(518, 0x00A9);
-    script.read(519, 0);
+    for number in [519, 523, 524, 525] {
+        script.read(number, 0);
+    }
     script.read(STATUS, 0x0068);
     script.write(STATUS, 0);
     script.read(STATUS, 0x002C);
@@ -202,7 +205,7 @@ fn point_68_writes_answer_nothing_and_read_only_registers_stay() {
 
 #[test]
 fn point_69_other_registers_are_refused_in_every_state() {
-    let others = [0, 1, 511, 520, 0xFFFF, 0x10200, (1 << 32) + 512];
+    let others = [0, 1, 511, 526, 0xFFFF, 0x10200, (1 << 32) + 512];
     let mut scripts = Vec::new();
     for (_, mut script) in in_every_state() {
         for number in others {

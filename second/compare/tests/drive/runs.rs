@@ -1,5 +1,6 @@
 //! Many random runs of a device, and what of it they met.
 
+use crate::next_pages_met::{all_of_next_pages, NextPagesMet};
 use compare::agreement::assert_agreement;
 use compare::call::Call;
 use compare::event::{register, LINK, TICK, WRITE};
@@ -7,34 +8,44 @@ use compare::history::{History, Step};
 use compare::random::Random;
 use compare::runs::random_run;
 use compare::tally::Tally;
-use reference::answer::{self, CHANGED, ECHO, TIE};
+use reference::answer::{self, CHANGED, ECHO, TIE, TOGGLE};
 use reference::device::registers::{CONTROL, ENABLE, RESET, RESTART};
 use reference::device::{State, STATES};
 use reference::resolve::RATES;
 
 /// So many runs of so many events.
-const SHORT_RUNS: (usize, usize) = (2000, 500);
-const LONG_RUNS: (usize, usize) = (60, 5000);
+const SHORT_RUNS: (usize, usize) = (1500, 500);
+const LONG_RUNS: (usize, usize) = (500, 5000);
 
-const EVENT_NAMES: [&str; 7] = ["edge", "tick", "sent", "link", "read", "write", "unknown"];
+/// So many runs are compared at once, since all together would take much room.
+const RUNS_AT_ONCE: usize = 100;
+
+pub const EVENT_NAMES: [&str; 7] = ["edge", "tick", "sent", "link", "read", "write", "unknown"];
 
 #[test]
 fn random_runs_agree() {
     let mut random = Random::from_environment();
-    let mut met = Tally::of(all_that_must_be_met());
-    let mut calls = Vec::new();
+    let mut met = Tally::of([all_that_must_be_met(), all_of_next_pages()].concat());
     for (runs, events) in [SHORT_RUNS, LONG_RUNS] {
-        for _ in 0..runs {
-            let history = random_run(&mut random, events);
-            count(&history, &mut met);
-            calls.push(Call::run(&history.events()));
+        for _ in 0..runs / RUNS_AT_ONCE {
+            compare_runs(&mut random, events, &mut met);
         }
     }
     met.assert_all_met();
+}
+
+fn compare_runs(random: &mut Random, events: usize, met: &mut Tally) {
+    let mut calls = Vec::new();
+    for _ in 0..RUNS_AT_ONCE {
+        let history = random_run(random, events);
+        count(&history, met);
+        calls.push(Call::run(&history.events()));
+    }
     assert_agreement(&calls);
 }
 
 fn count(history: &History, met: &mut Tally) {
+    NextPagesMet::default().count(history, met);
     for pair in history.steps.windows(2) {
         met.meet(clock_name(&pair[0], &pair[1]));
     }
@@ -69,9 +80,19 @@ fn all_that_must_be_met() -> Vec<String> {
         names.extend(TICKS_NEAR_THE_TIME.map(|(_, when)| format!("tick {when} in {state:?}")));
     }
     names.extend(CLOCK_AND_CELLS.map(String::from));
-    let ways = ["enable", "tie", "changed", "echo", "time-out", "link down"];
+    let ways = [
+        "enable",
+        "tie",
+        "changed",
+        "echo",
+        "toggle",
+        "lost",
+        "time-out",
+        "link down",
+    ];
     names.extend(ways.map(|way| format!("Break entered: {way}")));
-    names.extend((1..=11).map(|number| format!("refusal {number}")));
+    let refusals = (1..=11).chain([17]);
+    names.extend(refusals.map(|number| format!("refusal {number}")));
     for rate in &RATES {
         names.extend([true, false].map(|is_master| {
             let ability = rate.ability;
@@ -79,13 +100,14 @@ fn all_that_must_be_met() -> Vec<String> {
         }));
     }
     names.extend(["a page read".to_string(), "a page ordered".to_string()]);
-    for number in (512..=519)
-        .map(|number| number.to_string())
-        .chain(["other".into()])
-    {
-        names.extend(["read", "write"].map(|access| format!("{access} of {number}")));
-    }
+    names.extend(register_names());
     names
+}
+
+fn register_names() -> impl Iterator<Item = String> {
+    let numbers = (512..=525).map(|number| number.to_string());
+    let with_others = numbers.chain(["other".to_string()]);
+    with_others.flat_map(|number| ["read", "write"].map(|access| format!("{access} of {number}")))
 }
 
 const STATES_WITH_A_TIME: [State; 5] = [
@@ -97,7 +119,7 @@ const STATES_WITH_A_TIME: [State; 5] = [
 ];
 
 /// How long after the time has run out a tick comes, modulo 2^32.
-const TICKS_NEAR_THE_TIME: [(u32, &str); 3] = [
+pub const TICKS_NEAR_THE_TIME: [(u32, &str); 3] = [
     (u32::MAX, "1 ns before its time"),
     (0, "exactly at its time"),
     (1, "1 ns after its time"),
@@ -145,7 +167,7 @@ fn timer_name(step: &Step) -> String {
     format!("tick {when} in {:?}", step.before)
 }
 
-fn event_name(step: &Step) -> &'static str {
+pub fn event_name(step: &Step) -> &'static str {
     let kind = usize::try_from(step.event[0]).unwrap_or(usize::MAX);
     EVENT_NAMES[kind.min(6)]
 }
@@ -170,15 +192,20 @@ fn answer_name(step: &Step) -> String {
 
 fn register_name(step: &Step) -> String {
     let number = match register(&step.event) {
-        Some(number) if (512..=519).contains(&number) => number.to_string(),
+        Some(number) if (512..=525).contains(&number) => number.to_string(),
         _ => "other".to_string(),
     };
     format!("{} of {number}", event_name(step))
 }
 
 /// How this step entered Break, or words that say that it did not.
-fn way_into_break(step: &Step) -> String {
-    let answers = [(TIE, "tie"), (CHANGED, "changed"), (ECHO, "echo")];
+pub fn way_into_break(step: &Step) -> String {
+    let answers = [
+        (TIE, "tie"),
+        (CHANGED, "changed"),
+        (ECHO, "echo"),
+        (TOGGLE, "toggle"),
+    ];
     if let Some((_, way)) = answers.iter().find(|(answer, _)| step.answer == *answer) {
         return way.to_string();
     }
@@ -186,6 +213,7 @@ fn way_into_break(step: &Step) -> String {
         (WRITE, State::Off, State::Break) => "enable".to_string(),
         (WRITE, before, State::Break) if is_restart(step) => format!("restart in {before:?}"),
         (TICK, State::CheckLink, State::Break) => "time-out".to_string(),
+        (TICK, State::Ability | State::Ack | State::Complete, State::Break) => "lost".to_string(),
         (LINK, State::Up, State::Break) => "link down".to_string(),
         _ => "not at all".to_string(),
     }

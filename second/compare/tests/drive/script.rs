@@ -6,9 +6,9 @@
 use compare::agreement::assert_answer_cells;
 use compare::call::Call;
 use compare::event::{self, EventCells};
-use reference::answer::{good, ordered, register, settled, NOTHING};
+use reference::answer::{good, ordered, register, settled, CHECK, NOTHING};
 use reference::line_mode::LSM;
-use reference::page::readings;
+use reference::page::{readings, transitions};
 
 pub const OWN: u64 = 0x850001;
 pub const PARTNER: u64 = 0xA90001;
@@ -102,6 +102,13 @@ impl Script {
         }
     }
 
+    /// Writes a Next Page into its registers, 520 last, which loads it.
+    pub fn load(&mut self, word: u64) {
+        for (register, value) in event::loading(word) {
+            self.write(register, value);
+        }
+    }
+
     /// All edges of a page, the first one now. Only the last one has an answer.
     pub fn page(&mut self, word: u64, expected: u64) {
         self.page_with(word, expected, false);
@@ -118,6 +125,23 @@ impl Script {
             }
         }
         self.at(*last).edge(expected);
+    }
+
+    /// The edges of a page with one bit of its check bits flipped: position 154 is the
+    /// last of them, and the check bits of the word have to end with a zero.
+    pub fn page_with_a_wrong_check(&mut self, word: u64) {
+        let mut positions = transitions(&LSM, word);
+        let place = positions
+            .binary_search(&154)
+            .expect_err("the last check bit is 0");
+        positions.insert(place, 154);
+        let first = self.now;
+        let (last, before) = positions.split_last().expect("a page has edges");
+        let reading = |position: usize| first + (position as u32 - 1) * 800;
+        for position in before {
+            self.at(reading(*position)).edge(NOTHING);
+        }
+        self.at(reading(*last)).edge(CHECK);
     }
 
     /// A page that is on the line for its time.

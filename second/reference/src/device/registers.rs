@@ -1,4 +1,4 @@
-//! The registers 512 to 519 of a device.
+//! The registers 512 to 525 of a device.
 
 use super::{Device, State};
 use crate::answer;
@@ -8,6 +8,11 @@ pub const STATUS: u64 = 513;
 /// Registers with a word in parts of 16 bits, the lowest part first.
 pub const ADVERTISED: [u64; 3] = [514, 515, 516];
 pub const PARTNER: [u64; 3] = [517, 518, 519];
+pub const OWN_NEXT_PAGE: [u64; 3] = [520, 521, 522];
+pub const PARTNER_NEXT_PAGE: [u64; 3] = [523, 524, 525];
+
+/// The one register of the own Next Page whose write says that the page is there.
+const LOADS: u64 = OWN_NEXT_PAGE[0];
 
 /// Bits of 512.
 pub const RESET: u16 = 1 << 15;
@@ -27,6 +32,17 @@ fn lowest_bit(registers: [u64; 3], register: u64) -> Option<usize> {
     Some(16 * part)
 }
 
+fn is_read_only(register: u64) -> bool {
+    let of_a_word = [PARTNER, PARTNER_NEXT_PAGE];
+    register == STATUS || of_a_word.as_flattened().contains(&register)
+}
+
+/// Puts the value into the word, its lowest bit at this place.
+fn put_part(word: &mut u64, lowest: usize, value: u16) {
+    let part = 0xFFFF << lowest;
+    *word = (*word & !part) | (u64::from(value) << lowest);
+}
+
 impl Device {
     pub(super) fn read(&mut self, register: u64) -> u64 {
         match register {
@@ -40,11 +56,16 @@ impl Device {
     }
 
     fn part_of_a_word(&self, register: u64) -> Option<u16> {
-        let of_advertised = lowest_bit(ADVERTISED, register);
-        let of_partner = lowest_bit(PARTNER, register);
-        let advertised = of_advertised.map(|lowest| self.advertised >> lowest);
-        let partner = of_partner.map(|lowest| self.round.partner_page >> lowest);
-        Some(advertised.or(partner)? as u16)
+        let words = [
+            (ADVERTISED, self.advertised),
+            (PARTNER, self.negotiation.partner_page),
+            (OWN_NEXT_PAGE, self.negotiation.next_page_to_send),
+            (PARTNER_NEXT_PAGE, self.negotiation.partner_next_page),
+        ];
+        words.into_iter().find_map(|(registers, word)| {
+            let lowest = lowest_bit(registers, register)?;
+            Some((word >> lowest) as u16)
+        })
     }
 
     /// The status as it was, and then what reading it clears and sets.
@@ -55,11 +76,11 @@ impl Device {
             (is_up, COMPLETE),
             (self.remote_fault, REMOTE_FAULT),
             (true, ALWAYS_ONE),
-            (self.round.link_latch, LINK_LATCH),
+            (self.negotiation.link_latch, LINK_LATCH),
         ];
         self.page_received = false;
         self.remote_fault = false;
-        self.round.link_latch = is_up;
+        self.negotiation.link_latch = is_up;
         bits.into_iter()
             .filter(|(is_set, _)| *is_set)
             .map(|(_, bit)| bit)
@@ -70,9 +91,11 @@ impl Device {
         if register == CONTROL {
             self.control(now, value);
         } else if let Some(lowest) = lowest_bit(ADVERTISED, register) {
-            let part = 0xFFFF << lowest;
-            self.advertised = (self.advertised & !part) | (u64::from(value) << lowest);
-        } else if register != STATUS && !PARTNER.contains(&register) {
+            put_part(&mut self.advertised, lowest, value);
+        } else if let Some(lowest) = lowest_bit(OWN_NEXT_PAGE, register) {
+            put_part(&mut self.negotiation.next_page_to_send, lowest, value);
+            self.negotiation.is_loaded |= register == LOADS;
+        } else if !is_read_only(register) {
             return answer::REGISTER;
         }
         answer::NOTHING
