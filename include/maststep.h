@@ -2,7 +2,7 @@
  * Maststep: the pages of a line negotiation, for C (from C99 on) and C++ on x86-64 Linux.
  *
  * Link with libmaststep.a. It needs nothing at all beside it, not even the C library: it calls nothing outside
- * of itself, and has no data of its own that it writes. It has less than 10 KiB of code and constants.
+ * of itself, and has no data of its own that it writes. It has less than 11 KiB of code and constants.
  *
  * Every call answers with one 64-bit number: the top byte is the kind of the answer and the other 56
  * bits are its value. maststep_kind and maststep_value take an answer apart.
@@ -21,7 +21,7 @@ extern "C" {
 #endif
 
 /* The version of this header: one more with each change that a program can see, in a name, a call or an answer. */
-#define MASTSTEP_VERSION 1
+#define MASTSTEP_VERSION 2
 
 /*
  * No call was seen to use more bytes of stack than this, its return address among them. That is measured and not
@@ -30,7 +30,7 @@ extern "C" {
  */
 enum { MASTSTEP_MOST_STACK = 512 };
 
-/* The kinds of answer. 1 to 14 are refusals; a refusal's value is 0. */
+/* The kinds of answer. 1 to 14 and 17 are refusals; a refusal's value is 0. */
 enum {
     MASTSTEP_NOTHING = 0,     /* no answer; the value is 0 */
     MASTSTEP_GAP = 1,         /* an attempt ended: a gap was not what the pattern of a page asks there */
@@ -38,15 +38,16 @@ enum {
     MASTSTEP_CHECK = 3,       /* an attempt ended: it had all transitions, but the check bits do not agree */
     MASTSTEP_SELECTOR = 4,    /* refused: a word's selector is not 1 */
     MASTSTEP_TIE = 5,         /* refused: the two words have the same nonce */
-    MASTSTEP_CHANGED = 6,     /* refused: the partner's page is another than the one held, Ack and echo aside */
+    MASTSTEP_CHANGED = 6,     /* refused: the partner's page is another than the one held, Ack aside, and in a base page the echo */
     MASTSTEP_ECHO = 7,        /* refused: the partner's page has Ack 1 and echoes a nonce that is not the own one */
     MASTSTEP_NONE = 8,        /* refused: the two words have no rate in common */
     MASTSTEP_ROLES = 9,       /* refused: the two words insist on the same role */
-    MASTSTEP_REGISTER = 10,   /* refused: there is no such register */
+    MASTSTEP_REGISTER = 10,   /* refused: there is no such register, since the number is not one of 512 to 525 */
     MASTSTEP_TURN = 11,       /* refused: no page is out that could have been sent */
     MASTSTEP_ROOM = 12,       /* refused: the place is past the end, or too few entries stand from it on */
     MASTSTEP_WIDE = 13,       /* refused: the word is 2^48 or more */
     MASTSTEP_MODE = 14,       /* refused: the mode is neither 0 nor 1 */
+    MASTSTEP_TOGGLE = 17,     /* refused: the partner's new Next Page has the toggle of its page before */
     MASTSTEP_PAGE = 0x80,     /* a good page was read; the value is its word */
     MASTSTEP_ORDER = 0x81,    /* a page is to be sent; the value is its word */
     MASTSTEP_SETTLED = 0x82,  /* rate and role are settled; the value has both: see maststep_resolve */
@@ -72,16 +73,30 @@ enum {
     MASTSTEP_EVENT_WRITE = 5   /* a register is written; the argument is its number times 65536, plus the value */
 };
 
-/* The registers, all 16 bits wide (MMD 7 of Clause 45). There are no others. */
+/*
+ * The registers, all 16 bits wide (MMD 7 of Clause 45). There are no others.
+ *
+ * A Next Page is loaded by writing MASTSTEP_TRANSMIT_MIDDLE and MASTSTEP_TRANSMIT_HIGH first and then
+ * MASTSTEP_TRANSMIT_LOW, which alone says that a page is there. One that is loaded while the device is in Break makes
+ * NP of the own base page one. docs/INTEGRATING.md says when to load which page.
+ *
+ * Entering Break or Off makes 517 to 525 zero. 514 to 516 stay.
+ */
 enum {
     MASTSTEP_CONTROL = 512,
     MASTSTEP_STATUS = 513,            /* read only */
     MASTSTEP_ADVERTISED_LOW = 514,    /* D0-D15 of the word that is advertised */
     MASTSTEP_ADVERTISED_MIDDLE = 515, /* D16-D31 */
     MASTSTEP_ADVERTISED_HIGH = 516,   /* D32-D47 */
-    MASTSTEP_PARTNER_LOW = 517,       /* D0-D15 of the partner's page, read only */
+    MASTSTEP_PARTNER_LOW = 517,       /* D0-D15 of the partner's base page, read only */
     MASTSTEP_PARTNER_MIDDLE = 518,    /* D16-D31, read only */
-    MASTSTEP_PARTNER_HIGH = 519       /* D32-D47, read only */
+    MASTSTEP_PARTNER_HIGH = 519,      /* D32-D47, read only */
+    MASTSTEP_TRANSMIT_LOW = 520,      /* D0-D15 of the own Next Page; reads as written, and a write loads the page */
+    MASTSTEP_TRANSMIT_MIDDLE = 521,   /* D16-D31, reads as written */
+    MASTSTEP_TRANSMIT_HIGH = 522,     /* D32-D47, reads as written */
+    MASTSTEP_HEARD_LOW = 523,         /* D0-D15 of the partner's last Next Page, read only */
+    MASTSTEP_HEARD_MIDDLE = 524,      /* D16-D31, read only */
+    MASTSTEP_HEARD_HIGH = 525         /* D32-D47, read only */
 };
 
 /* The bits of MASTSTEP_CONTROL. A read shows MASTSTEP_CONTROL_ENABLE only; all others read as zero. */
@@ -96,9 +111,9 @@ enum {
  * restart or a swap they may still be of a partner before, until they have been read once.
  */
 enum {
-    MASTSTEP_STATUS_PAGE_RECEIVED = 0x40, /* a partner has answered since the last read */
+    MASTSTEP_STATUS_PAGE_RECEIVED = 0x40, /* a partner has answered since the last read, by a base or Next Page */
     MASTSTEP_STATUS_COMPLETE = 0x20,      /* the link is up */
-    MASTSTEP_STATUS_REMOTE_FAULT = 0x10,  /* a page that a partner answered with since the last read had remote fault */
+    MASTSTEP_STATUS_REMOTE_FAULT = 0x10,  /* a base page that a partner answered with since the last read had it */
     MASTSTEP_STATUS_ALWAYS_ONE = 0x08,
     MASTSTEP_STATUS_LINK_LATCH = 0x04     /* the link was up at the last read, and has not gone since */
 };
@@ -116,7 +131,7 @@ enum {
     MASTSTEP_ABILITY_10BASE_T1S_HALF = 22 /* half duplex */
 };
 
-/* The fields of a page's word: the number of the lowest bit of each, D0 being bit 0. */
+/* The fields of a base page's word: the number of the lowest bit of each, D0 being bit 0. */
 enum {
     MASTSTEP_FIELD_SELECTOR = 0,      /* S, five bits */
     MASTSTEP_FIELD_ECHO = 5,          /* E, five bits: the nonce that was heard */
@@ -124,10 +139,26 @@ enum {
     MASTSTEP_FIELD_FORCED_ROLE = 12,  /* M/S; where it is 1, T4, the nonce's highest bit, is the role: 1 for master */
     MASTSTEP_FIELD_REMOTE_FAULT = 13,
     MASTSTEP_FIELD_ACK = 14,
-    MASTSTEP_FIELD_NEXT_PAGE = 15,    /* NP */
+    MASTSTEP_FIELD_NEXT_PAGE = 15,    /* NP: one where a Next Page is to follow */
     MASTSTEP_FIELD_NONCE = 16,        /* T, five bits */
     MASTSTEP_FIELD_ABILITIES = 21     /* A0-A26 */
 };
+
+/*
+ * The fields of a Next Page's word, in the same way; Ack and NP stand where a base page has them. A message page has
+ * D13 one and a code. An unformatted page has D13 zero, and 43 bits of its own: the eleven from D0 on, then the 32 from
+ * D16 on. The device sets toggle and Ack of the pages that it orders, whatever was loaded.
+ */
+enum {
+    MASTSTEP_FIELD_CODE = 0,          /* eleven bits: a message page's code, or an unformatted page's first bits */
+    MASTSTEP_FIELD_TOGGLE = 11,       /* other than D11 of the same end's page before, base page or Next Page */
+    MASTSTEP_FIELD_ACK2 = 12,
+    MASTSTEP_FIELD_MESSAGE = 13,      /* one in a message page, zero in an unformatted page */
+    MASTSTEP_FIELD_UNFORMATTED = 16   /* 32 unformatted bits */
+};
+
+/* The Null message: code 1, D13 one. Sent where the own NP is zero, the partner's one, and no page is loaded. */
+enum { MASTSTEP_NULL_MESSAGE = 0x2001 };
 
 /* No page has more readings than this, in either mode. */
 enum { MASTSTEP_MOST_READINGS = 150 };
@@ -260,10 +291,18 @@ uint64_t maststep_read(const uint32_t *list, size_t length, size_t place, uint32
  * The kinds and their arguments are those of MASTSTEP_EVENT_EDGE (0) to MASTSTEP_EVENT_WRITE (5); any other
  * kind is answered with nothing and changes nothing.
  *
- * An event is answered with MASTSTEP_NOTHING (0), a refusal from 1 to 11, MASTSTEP_PAGE with a good page's word,
- * MASTSTEP_ORDER with the word of the page that is ordered, MASTSTEP_SETTLED, or MASTSTEP_VALUE with a register's
- * value. MASTSTEP_EVENT_SENT of the third page in state Complete is answered with MASTSTEP_NONE (8),
- * MASTSTEP_ROLES (9) or MASTSTEP_SETTLED.
+ * An event is answered with MASTSTEP_NOTHING (0), a refusal from 1 to 11 or 17, MASTSTEP_PAGE with a good page's
+ * word, MASTSTEP_ORDER with the word of the page that is ordered, MASTSTEP_SETTLED, or MASTSTEP_VALUE with a
+ * register's value.
+ *
+ * MASTSTEP_EVENT_SENT of the third page in state Complete, and of each later one there, is answered with
+ * MASTSTEP_NOTHING where NP of the own page or of the partner's is one: Next Pages go on, or the own page is sent
+ * again until the host has loaded the one that it announced. Where neither is one it is answered with MASTSTEP_NONE
+ * (8), MASTSTEP_ROLES (9) or MASTSTEP_SETTLED, from the two base pages.
+ *
+ * MASTSTEP_EVENT_TICK may go to Break, after which 517 to 525 read zero, and is then answered with
+ * MASTSTEP_NOTHING: once Next Pages have begun, where the last good page is 4 000 000 ns old or more and no page is
+ * out; and where the link has not come up in time.
  *
  * Refused: MASTSTEP_ROOM (12) if there are fewer entries than events, and the whole list is then left as it
  * was.

@@ -2,8 +2,8 @@
  * The C library as a C program sees it: through include/maststep.h, linked with libmaststep.a.
  *
  * What is expected here is written out from the scope's own tables (positions, windows, times, and P1-P14,
- * which test_table_of_01 runs in their order), with no code in common with the library. A check that holds
- * prints nothing. The last line is 'N passed, M failed', and the exit status is 1 where M is not 0.
+ * which test_table_of_01 runs in their order) and from its amendments, with no code in common with the library. A
+ * check that holds prints nothing. The last line is 'N passed, M failed', and the exit status is 1 where M is not 0.
  *
  * Compiled with ON_PAINTED_STACK, it makes every call on a painted stack, and looks how deep that was too.
  */
@@ -63,6 +63,7 @@ static void test_header(void)
     same("Room is 12", MASTSTEP_ROOM, 12);
     same("Wide is 13", MASTSTEP_WIDE, 13);
     same("Mode is 14", MASTSTEP_MODE, 14);
+    same("Toggle is 17", MASTSTEP_TOGGLE, 17);
     same("a page is 80", MASTSTEP_PAGE, 0x80);
     same("an order is 81", MASTSTEP_ORDER, 0x81);
     same("settled is 82", MASTSTEP_SETTLED, 0x82);
@@ -72,7 +73,7 @@ static void test_header(void)
     same("unfit is 86", MASTSTEP_UNFIT, 0x86);
     same("HSM is mode 0", MASTSTEP_HSM, 0);
     same("LSM is mode 1", MASTSTEP_LSM, 1);
-    same("the version is 1", MASTSTEP_VERSION, 1);
+    same("the version is 2", MASTSTEP_VERSION, 2);
 }
 
 static void test_names_of_events_and_registers(void)
@@ -91,6 +92,12 @@ static void test_names_of_events_and_registers(void)
     same("the partner's D0-D15 are 517", MASTSTEP_PARTNER_LOW, 517);
     same("the partner's D16-D31 are 518", MASTSTEP_PARTNER_MIDDLE, 518);
     same("the partner's D32-D47 are 519", MASTSTEP_PARTNER_HIGH, 519);
+    same("D0-D15 of the own Next Page are 520", MASTSTEP_TRANSMIT_LOW, 520);
+    same("D16-D31 of the own Next Page are 521", MASTSTEP_TRANSMIT_MIDDLE, 521);
+    same("D32-D47 of the own Next Page are 522", MASTSTEP_TRANSMIT_HIGH, 522);
+    same("D0-D15 of the heard Next Page are 523", MASTSTEP_HEARD_LOW, 523);
+    same("D16-D31 of the heard Next Page are 524", MASTSTEP_HEARD_MIDDLE, 524);
+    same("D32-D47 of the heard Next Page are 525", MASTSTEP_HEARD_HIGH, 525);
     same("reset is bit 15 of 512", MASTSTEP_CONTROL_RESET, 1 << 15);
     same("enable is bit 12 of 512", MASTSTEP_CONTROL_ENABLE, 1 << 12);
     same("restart is bit 9 of 512", MASTSTEP_CONTROL_RESTART, 1 << 9);
@@ -125,6 +132,12 @@ static void test_names_of_a_word(void)
     same("NP is D15", MASTSTEP_FIELD_NEXT_PAGE, 15);
     same("the nonce begins at D16", MASTSTEP_FIELD_NONCE, 16);
     same("the abilities begin at D21", MASTSTEP_FIELD_ABILITIES, 21);
+    same("the code begins at D0", MASTSTEP_FIELD_CODE, 0);
+    same("the toggle is D11", MASTSTEP_FIELD_TOGGLE, 11);
+    same("Ack2 is D12", MASTSTEP_FIELD_ACK2, 12);
+    same("message or unformatted page is D13", MASTSTEP_FIELD_MESSAGE, 13);
+    same("the unformatted bits begin at D16", MASTSTEP_FIELD_UNFORMATTED, 16);
+    same("the Null message", MASTSTEP_NULL_MESSAGE, (1 << MASTSTEP_FIELD_CODE) + (1 << MASTSTEP_FIELD_MESSAGE));
     for (n = 0; n < 27; n++) same("the bit of an ability", maststep_ability_bit(n), UINT64_C(0x200000) << n);
     same("there is no A27", maststep_ability_bit(27), 0);
     same("there is no ability of the largest number", maststep_ability_bit(UINT_MAX), 0);
@@ -813,7 +826,7 @@ static void test_nothing_and_refusals(void)
 /* ---- a run of events */
 
 enum { EDGE, TICK, SENT, LINK, READ, WRITE };
-enum { EVENTS = 400, ANSWERS = EVENTS + 5 };
+enum { EVENTS = 1200, ANSWERS = EVENTS + 5 };
 
 /* The events of a run, three cells each with two cells to spare, and the answer that each has to get. */
 static uint64_t cells[3 * EVENTS + 2], wanted[EVENTS], answers[ANSWERS];
@@ -839,16 +852,22 @@ static void writes_register(uint64_t number, uint64_t value)
     event(WRITE, number * 65536 + value, 0);
 }
 
-/* A page arrives: its last edge answers it, the others nothing. The time is then that of the last edge. */
-static void hears(uint64_t word)
+/* A page arrives: its last edge gets this answer, the others none. The time is then that of the last edge. */
+static void arrives(uint64_t word, uint64_t answer)
 {
     uint32_t readings[MASTSTEP_MOST_READINGS];
     size_t count = (size_t)maststep_value(maststep_write(readings, MASTSTEP_MOST_READINGS, 0, 1, word, now)), i;
 
     for (i = 0; i < count; i++) {
         now = readings[i];
-        event(EDGE, i, i + 1 == count ? packed(0x80, word) : 0);
+        event(EDGE, i, i + 1 == count ? answer : 0);
     }
+}
+
+/* A page arrives, and is not refused. */
+static void hears(uint64_t word)
+{
+    arrives(word, packed(0x80, word));
 }
 
 /* The own page is ordered so many ns from now and not one ns before; a page takes 124 800 ns to send. */
@@ -930,7 +949,7 @@ static void test_run_room(void)
 
     fresh_run(5);
     reads_register(513, 8);
-    event(READ, 520, packed(10, 0));
+    event(READ, 526, packed(10, 0));
     event(SENT, 0, packed(11, 0));
     for (room = 0; room < 3; room++) runs("too little room", 9, room, packed(12, 0));
     for (room = 3; room < 6; room++) runs("room", 9, room, packed(0x84, 3));
@@ -962,10 +981,16 @@ static void test_run_without_lists(void)
     same("no list of events: the entry", answers[0], guard_of_answer(0));
 }
 
-/* Registers from 512 to 519 and no others, by the whole cell; kinds from 0 to 5 and no others. */
+/* Whether a register holds what was written: what is advertised, and the own Next Page. */
+static int is_written(size_t number)
+{
+    return (number >= 514 && number < 517) || (number >= 520 && number < 523);
+}
+
+/* Registers from 512 to 525 and no others, by the whole cell; kinds from 0 to 5 and no others. */
 static void test_run_registers(void)
 {
-    static const uint64_t none[] = {0, 7, 10, 511, 520, 65535, 65536 + 512, (UINT64_C(1) << 32) + 513, UINT64_C(1) << 47};
+    static const uint64_t none[] = {0, 7, 10, 511, 526, 527, 65535, 65536 + 512, (UINT64_C(1) << 32) + 513, UINT64_C(1) << 47};
     size_t i;
 
     fresh_run(77);
@@ -975,14 +1000,18 @@ static void test_run_registers(void)
     }
     event(READ, UINT64_MAX, packed(10, 0));
     event(WRITE, UINT64_MAX, packed(10, 0));
-    for (i = 512; i < 520; i++) reads_register(i, i == 513 ? 8 : 0);
-    for (i = 513; i < 520; i++) writes_register(i, 0xf0f0 + i);
-    for (i = 513; i < 520; i++) reads_register(i, i == 513 ? 8 : i < 517 ? 0xf0f0 + i : 0);
+    for (i = 512; i < 526; i++) reads_register(i, i == 513 ? 8 : 0);
+    for (i = 513; i < 526; i++) writes_register(i, 0xf0f0 + i);
+    for (i = 513; i < 526; i++) reads_register(i, i == 513 ? 8 : is_written(i) ? 0xf0f0 + i : 0);
+    for (i = 520; i < 523; i++) reads_register(i, 0xf0f0 + i); /* a read changes nothing */
     event(6, 512, 0);
     event(UINT64_MAX, 512, 0);
     event((UINT64_C(1) << 32) + READ, 513, 0);
     event((UINT64_C(1) << 32) + WRITE, UINT64_C(512) * 65536 + 0x8000, 0);
     reads_register(514, 0xf0f0 + 514);
+    writes_register(512, 0x0200); /* bit 12 zero: into Off, also from Off */
+    reads_register(514, 0xf0f0 + 514);
+    reads_register(520, 0);
     writes_register(512, 0x9200); /* bit 15: fresh, whatever the other bits */
     reads_register(514, 0);
     reads_register(512, 0);
@@ -1039,27 +1068,48 @@ static void test_run_to_link_up(void)
     runs("the run without room", 3 * events, events - 1, packed(12, 0));
 }
 
-/* A device goes on to Complete and sends three pages; its third Sent gets this answer. */
-static void settles(const char *what, uint64_t own, uint64_t partner, uint64_t answer)
+/* A device that advertises this is enabled, and is in Break. */
+static void enters_break(uint64_t advertised)
 {
-    const uint64_t own_answering = own + 0x4000 + ((partner >> 16 & 31) << 5);
-    const uint64_t partner_answering = partner + 0x4000 + ((own >> 16 & 31) << 5);
-
     fresh_run(0);
-    writes_register(514, own & 0xffff);
-    writes_register(515, own >> 16);
+    writes_register(514, advertised & 0xffff);
+    writes_register(515, advertised >> 16);
     writes_register(512, 0x1000);
+}
+
+/* A base page as it is sent where the other end's base page has been heard: with Ack, and the other's nonce as E. */
+static uint64_t answering(uint64_t base, uint64_t other)
+{
+    return base + 0x4000 + ((other >> 16 & 31) << 5);
+}
+
+/* It leaves Break with its own base page, whose nonce is the draw, and hears the partner's: it is in Complete. */
+static void goes_to_complete(uint64_t own, uint64_t partner)
+{
     now += 8000000;
     event(TICK, own >> 16 & 31, 0);
     sends(350000, own, 0);
     now += 40000;
     hears(partner);
-    sends(33000, own_answering, 0);
+    sends(33000, answering(own, partner), 0);
     now += 40000;
-    hears(partner_answering);
-    sends(33000, own_answering, 0);
-    sends(350000, own_answering, 0);
-    sends(350000, own_answering, answer);
+    hears(answering(partner, own));
+}
+
+/* Three pages are sent in Complete; the third Sent gets this answer. */
+static void sends_three(uint64_t word, uint64_t answer)
+{
+    sends(33000, word, 0);
+    sends(350000, word, 0);
+    sends(350000, word, answer);
+}
+
+/* A device goes on to Complete and sends three pages; its third Sent gets this answer. */
+static void settles(const char *what, uint64_t own, uint64_t partner, uint64_t answer)
+{
+    enters_break(own);
+    goes_to_complete(own, partner);
+    sends_three(answering(own, partner), answer);
     runs(what, 3 * events, events, packed(0x84, events));
 }
 
@@ -1070,6 +1120,234 @@ static void test_run_third_sent(void)
     settles("P10's device", 0x851001, 0xA91001, packed(9, 0));
     settles("P11's device", 0x951001, 0xA90001, settled(2, 1));
     settles("P13's device", 0x450001, 0xA90001, packed(8, 0));
+}
+
+/* ---- Next Pages */
+
+enum { ACK = 0x4000, NP = 0x8000, TOGGLE = 0x0800 };
+
+/* The base pages of P9's device and its partner, and two own Next Pages, a message and an unformatted page. */
+static const uint64_t OWN = 0x850001, PARTNER = 0xa90001;
+static const uint64_t MESSAGE = UINT64_C(0x12345678a005), UNFORMATTED = UINT64_C(0xfedc43210123);
+
+/* The host loads a page: 520 comes last. */
+static void loads(uint64_t word)
+{
+    writes_register(521, word >> 16 & 0xffff);
+    writes_register(522, word >> 32);
+    writes_register(520, word & 0xffff);
+}
+
+/* The three registers from this one on hold the word. */
+static void holds(uint64_t number, uint64_t word)
+{
+    reads_register(number, word & 0xffff);
+    reads_register(number + 1, word >> 16 & 0xffff);
+    reads_register(number + 2, word >> 32);
+}
+
+/* All that belongs to a link is gone: the device is in Break. A page that was out is no longer. */
+static void is_in_break(void)
+{
+    reads_register(512, 0x1000);
+    holds(517, 0);
+    holds(520, 0);
+    holds(523, 0);
+    event(SENT, 0, packed(11, 0));
+}
+
+/* The partner's Next Page is heard and answered, and heard again with Ack: the device is in Complete. */
+static void exchanges(uint64_t own, uint64_t partner)
+{
+    sends(33000, own, 0);
+    now += 40000;
+    hears(partner);
+    sends(33000, own + ACK, 0);
+    now += 40000;
+    hears(partner + ACK);
+}
+
+/*
+ * Two pages one way and one the other. The first own page is loaded in Break, so that NP is set in the base page; the
+ * second is late, and the first is sent until it is there. The partner has one page, and then the Null message. Rate
+ * and role are those of the base pages, whatever the Next Pages have.
+ */
+static void test_run_next_pages(void)
+{
+    const uint64_t theirs = UINT64_C(0xffff00002806), null = MASTSTEP_NULL_MESSAGE;
+
+    enters_break(OWN);
+    loads(MESSAGE);
+    holds(520, MESSAGE);
+    goes_to_complete(OWN + NP, PARTNER + NP);
+    reads_register(513, 0x48);
+    sends_three(answering(OWN + NP, PARTNER), 0);
+
+    /* The partner's base page once more is no new page. The toggles begin as the inverse of D11 of the base pages. */
+    now += 40000;
+    hears(answering(PARTNER + NP, OWN));
+    exchanges(MESSAGE + TOGGLE, theirs);
+    reads_register(513, 0x48); /* page received, and D13 is no remote fault */
+    holds(517, answering(PARTNER + NP, OWN));
+    holds(523, theirs + ACK);
+    holds(520, MESSAGE);
+
+    /* Own NP is one and nothing is loaded. */
+    sends_three(MESSAGE + TOGGLE + ACK, 0);
+    now += 40000;
+    hears(null);
+    sends(33000, MESSAGE + TOGGLE + ACK, 0);
+    loads(UNFORMATTED);
+    sends(350000, MESSAGE + TOGGLE + ACK, 0);
+    now += 40000;
+    hears(null);
+    sends(33000, UNFORMATTED + ACK, 0);
+    now += 40000;
+    hears(null + ACK);
+    holds(523, null + ACK);
+    sends_three(UNFORMATTED + ACK, settled(2, 0));
+    holds(523, null + ACK);
+    runs("Next Pages", 3 * events, events, packed(0x84, events));
+}
+
+/* Nothing is loaded, and the partner has a page: the Null message answers it. */
+static void test_run_null_message(void)
+{
+    const uint64_t theirs = UINT64_C(0x2805);
+
+    enters_break(OWN);
+    goes_to_complete(OWN, PARTNER + NP);
+    sends_three(answering(OWN, PARTNER), 0);
+    now += 40000;
+    hears(answering(PARTNER + NP, OWN));
+    exchanges(MASTSTEP_NULL_MESSAGE + TOGGLE, theirs);
+    sends_three(MASTSTEP_NULL_MESSAGE + TOGGLE + ACK, settled(2, 0));
+    runs("the Null message", 3 * events, events, packed(0x84, events));
+}
+
+/* A device in Break leaves it, and orders this base page first. */
+static void orders_first(const char *what, uint64_t own)
+{
+    now += 8000000;
+    event(TICK, own >> 16 & 31, 0);
+    sends(350000, own, 0);
+    runs(what, 3 * events, events, packed(0x84, events));
+}
+
+/* A write of 520 in Break sets NP of the base page, and nothing else does: not 521 and 522, nor bit 15 of 514. */
+static void test_run_loaded(void)
+{
+    enters_break(OWN);
+    writes_register(520, 0);
+    orders_first("520 is written in Break", OWN + NP);
+
+    enters_break(OWN);
+    writes_register(521, 0x5678);
+    writes_register(522, 0x1234);
+    orders_first("521 and 522 are written in Break", OWN);
+
+    enters_break(OWN + NP);
+    orders_first("514 has bit 15", OWN);
+
+    /* Entering Break, from Off or by a restart, forgets what was loaded before. */
+    fresh_run(0);
+    loads(MESSAGE);
+    holds(520, MESSAGE);
+    writes_register(514, OWN & 0xffff);
+    writes_register(515, OWN >> 16);
+    writes_register(512, 0x1000);
+    holds(520, 0);
+    loads(MESSAGE);
+    writes_register(512, 0x1200);
+    holds(520, 0);
+    orders_first("520 is written in Off, and before a restart", OWN);
+
+    /* The tick that leaves Break makes the base page. */
+    enters_break(OWN);
+    now += 8000000;
+    event(TICK, 5, 0);
+    loads(MESSAGE);
+    sends(350000, OWN, 0);
+    runs("520 is written after Break", 3 * events, events, packed(0x84, events));
+}
+
+/* A page that is loaded after Break goes out where the partner's NP is one, in the Null message's place. */
+static void test_run_loaded_late(void)
+{
+    enters_break(OWN);
+    goes_to_complete(OWN, PARTNER + NP);
+    loads(UNFORMATTED);
+    sends_three(answering(OWN, PARTNER), 0);
+    sends(350000, UNFORMATTED + TOGGLE, 0);
+    runs("loaded after Break", 3 * events, events, packed(0x84, events));
+    enters_break(OWN);
+    goes_to_complete(OWN, PARTNER);
+    loads(MESSAGE);
+    sends_three(answering(OWN, PARTNER), settled(2, 0));
+    holds(520, MESSAGE);
+    runs("loaded after Break, and the partner has no page", 3 * events, events, packed(0x84, events));
+}
+
+/* The first Next Pages are due at a device that has loaded one. */
+static void goes_to_next_pages(void)
+{
+    enters_break(OWN);
+    loads(MESSAGE);
+    goes_to_complete(OWN + NP, PARTNER);
+    sends_three(answering(OWN + NP, PARTNER), 0);
+    now += 40000;
+}
+
+/* A new page with the toggle of the page before, in each round. */
+static void test_run_toggle(void)
+{
+    goes_to_next_pages();
+    arrives(0x2006, packed(17, 0));
+    is_in_break();
+    runs("Toggle, after the base page", 3 * events, events, packed(0x84, events));
+
+    goes_to_next_pages();
+    hears(answering(PARTNER, OWN));
+    exchanges(MESSAGE + TOGGLE, 0x2806);
+    loads(UNFORMATTED);
+    sends_three(MESSAGE + TOGGLE + ACK, 0);
+    now += 40000;
+    arrives(0x2807, packed(17, 0));
+    is_in_break();
+    runs("Toggle, after a Next Page", 3 * events, events, packed(0x84, events));
+}
+
+/* In Ack a Next Page may differ in Ack alone; D5-9 are no echo there. */
+static void test_run_changed_next_page(void)
+{
+    goes_to_next_pages();
+    hears(0x2806);
+    now += 40000;
+    arrives(0x2826, packed(6, 0));
+    is_in_break();
+    runs("Changed", 3 * events, events, packed(0x84, events));
+}
+
+/* The partner falls silent: 4 ms after its last page a tick with no page out goes to Break, and answers nothing. */
+static void test_run_lost(void)
+{
+    uint32_t heard;
+
+    goes_to_next_pages();
+    hears(0x2806);
+    heard = now;
+    sends(33000, MESSAGE + TOGGLE + ACK, 0);
+    now = heard + 3999999;
+    event(TICK, 3, packed(0x81, MESSAGE + TOGGLE + ACK));
+    now += 1;
+    event(TICK, 3, 0); /* a page is out */
+    reads_register(518, PARTNER >> 16);
+    now += 124799;
+    event(SENT, 0, 0);
+    reads_register(518, PARTNER >> 16);
+    event(TICK, 3, 0);
+    is_in_break();
+    runs("lost", 3 * events, events, packed(0x84, events));
 }
 
 /* ---- P1-P14 */
@@ -1168,6 +1446,13 @@ int main(void)
     test_run_registers();
     test_run_to_link_up();
     test_run_third_sent();
+    test_run_next_pages();
+    test_run_null_message();
+    test_run_loaded();
+    test_run_loaded_late();
+    test_run_toggle();
+    test_run_changed_next_page();
+    test_run_lost();
     test_table_of_01();
     test_stack();
     printf("%u passed, %u failed\n", passed, failed);
