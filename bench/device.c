@@ -9,7 +9,8 @@
  *           nanoseconds of a run grow by from the first to the second, as 'maststep NS' and 'plain NS',
  *           so that the prologue and all else that is there once a run fall out;
  *           compare: both sides on RUNS lists, of which only the mixed ones differ; each entry of the two
- *           lists of answers is compared, and the first that differs is named and ends the program with 1
+ *           lists of answers is compared, and the first that differs is named and ends the program with 1;
+ *           so does, after all mixed lists, something that they should meet and have not (met.h)
  *
  * Nothing but main runs between the calls, and lists are always filled to their end, so that a count of the
  * instructions outside of main grows by the calls alone.
@@ -20,6 +21,7 @@
 #include "common.h"
 #include "events.h"
 #include "maststep.h"
+#include "met.h"
 
 uint64_t plain_run(const uint64_t *events, size_t cells, uint64_t *answers, size_t room);
 
@@ -61,6 +63,7 @@ static int compare(unsigned long list, size_t length)
                (unsigned long long)answers[0][i], (unsigned long long)answers[1][i]);
         return 0;
     }
+    count_met(events, answers[0], PROLOGUE + length);
     return 1;
 }
 
@@ -104,7 +107,7 @@ int main(int argc, char **argv)
             fill_events(events, argv[1], i);
             if (!compare(i, length)) return 1;
         }
-        return 0;
+        return strcmp(argv[1], "mixed") == 0 && !is_all_met();
     }
     if (strcmp(argv[2], "both") == 0) {
         if (length > LASTING / 2) return 2;

@@ -5,6 +5,7 @@ use crate::{Outcome, Reader, Refusal, LSM, ORDER, PAGE, SETTLED, VALUE};
 const BREAK: u32 = 8_000_000;
 const SILENT: u32 = 33_000;
 const WAIT: u32 = 350_000;
+const LOST: u32 = 4_000_000;
 const INHIBIT: u32 = 97_500_000;
 const INHIBIT_T1S: u32 = 402_000_000;
 const INHIBIT_T1L: u32 = 3_060_000_000;
@@ -15,6 +16,7 @@ struct Field(u32, u32);
 
 const SELECTOR: Field = Field(0, 5);
 const ECHOED_NONCE: Field = Field(5, 5);
+const TOGGLE: Field = Field(11, 1);
 const FORCED_ROLE: Field = Field(12, 1);
 const REMOTE_FAULT: Field = Field(13, 1);
 const ACK: Field = Field(14, 1);
@@ -81,17 +83,22 @@ fn resolve(own: u64, partner: u64) -> Result<Settled, Refusal> {
     Ok(Settled { ability, master })
 }
 
-/// The page that a device sends first.
-fn own_page(advertised: u64, draw: u64) -> u64 {
+/// The page that a device sends first; its NP says whether a Next Page follows.
+fn base_page(advertised: u64, draw: u64, is_loaded: bool) -> u64 {
     let drawn = match is_forced(advertised) {
         true => draw & 15 | NONCE.get(advertised) & 16,
         false => draw,
     };
-    let mut page = SELECTOR.set(advertised, 1);
-    for field in [ECHOED_NONCE, ACK, NEXT_PAGE] {
-        page = field.set(page, 0);
-    }
-    NONCE.set(page, drawn)
+    let page = ACK.set(ECHOED_NONCE.set(SELECTOR.set(advertised, 1), 0), 0);
+    NONCE.set(NEXT_PAGE.set(page, u64::from(is_loaded)), drawn)
+}
+
+/// The Next Page that a side sends which has nothing more to say.
+const NULL_MESSAGE: u64 = 0x2001;
+
+/// A word as the Next Page that follows an own page.
+fn next_page(before: u64, word: u64) -> u64 {
+    TOGGLE.set(ACK.set(word, 0), 1 - TOGGLE.get(before))
 }
 
 /// The own page with Ack and the partner's nonce.
@@ -99,9 +106,24 @@ fn echoing_page(own: u64, held: u64) -> u64 {
     ACK.set(ECHOED_NONCE.set(own, NONCE.get(held)), 1)
 }
 
-/// Whether two pages are the same but for Ack and the echoed nonce.
-fn is_same_page(one: u64, other: u64) -> bool {
+/// Whether two base pages are the same but for Ack and the echoed nonce.
+fn is_same_base(one: u64, other: u64) -> bool {
     (one ^ other) & !(ACK.mask() | ECHOED_NONCE.mask()) == 0
+}
+
+/// Whether two Next Pages are the same but for Ack.
+fn is_same_next(one: u64, other: u64) -> bool {
+    (one ^ other) & !ACK.mask() == 0
+}
+
+/// A page as the values of its three registers.
+fn registers_of(word: u64) -> [u16; 3] {
+    [word as u16, (word >> 16) as u16, (word >> 32) as u16]
+}
+
+fn word_of(registers: [u16; 3]) -> u64 {
+    let [low, middle, high] = registers.map(u64::from);
+    low | middle << 16 | high << 32
 }
 
 #[derive(Clone, Copy, PartialEq)]
@@ -122,34 +144,86 @@ enum Mark {
     Waiting(u32),
 }
 
+/// Which pages are traded: base pages, the first own Next Page while the partner's is not yet held, or later ones.
+#[derive(Clone, Copy, PartialEq)]
+enum Round {
+    Base,
+    First,
+    Later,
+}
+
 /// What belongs to one link and is forgotten with it.
 struct Talk {
-    own: u64,
-    held: u64,
+    round: Round,
+    own_base: u64,
+    held_base: u64,
+    own_next: u64,
+    held_next: u64,
     is_out: bool,
     sent: u32,
     mark: Mark,
+    last_good: u32,
     timer: u32,
     latch: bool,
     outcome: Option<Result<Settled, Refusal>>,
     partner: [u16; 3],
+    /// The own Next Page as it is written, and whether it is still to be sent.
+    next: [u16; 3],
+    is_loaded: bool,
+    partner_next: [u16; 3],
     reader: Reader,
 }
 
 impl Talk {
     fn new(reading: u32) -> Talk {
         Talk {
-            own: 0,
-            held: 0,
+            round: Round::Base,
+            own_base: 0,
+            held_base: 0,
+            own_next: 0,
+            held_next: 0,
             is_out: false,
             sent: 0,
             mark: Mark::Waiting(reading),
+            last_good: reading,
             timer: reading,
             latch: false,
             outcome: None,
             partner: [0; 3],
+            next: [0; 3],
+            is_loaded: false,
+            partner_next: [0; 3],
             reader: Reader::Fresh,
         }
+    }
+
+    /// The own page of the round.
+    fn own(&self) -> u64 {
+        match self.round {
+            Round::Base => self.own_base,
+            Round::First | Round::Later => self.own_next,
+        }
+    }
+
+    /// The held page of the round.
+    fn held(&self) -> u64 {
+        match self.round {
+            Round::Base | Round::First => self.held_base,
+            Round::Later => self.held_next,
+        }
+    }
+
+    /// Whether a page is the held one once more.
+    fn repeats_held(&self, word: u64) -> bool {
+        match self.round {
+            Round::Base | Round::First => is_same_base(word, self.held_base),
+            Round::Later => is_same_next(word, self.held_next),
+        }
+    }
+
+    /// Whether either side has a page to follow.
+    fn has_more(&self) -> bool {
+        NEXT_PAGE.get(self.own() | self.held()) == 1
     }
 }
 
@@ -266,10 +340,12 @@ impl Device {
     }
 
     fn page(&mut self, word: u64, reading: u32) -> Answer {
-        match self.state {
-            State::Ability => self.page_in_ability(word, reading),
-            State::Ack => self.page_in_ack(word, reading),
-            State::Complete => self.hear(word, reading),
+        match (self.state, self.talk.round) {
+            (State::Ability, Round::Base) => self.base_page_in_ability(word, reading),
+            (State::Ability, _) => self.next_page_in_ability(word, reading),
+            (State::Ack, Round::Base) => self.base_page_in_ack(word, reading),
+            (State::Ack, _) => self.next_page_in_ack(word, reading),
+            (State::Complete, _) => self.hear(word, reading),
             _ => Answer::Nothing,
         }
     }
@@ -277,40 +353,64 @@ impl Device {
     /// The page is not refused.
     fn hear(&mut self, word: u64, reading: u32) -> Answer {
         self.talk.mark = Mark::Heard(reading);
+        self.talk.last_good = reading;
         Answer::Page(word)
     }
 
-    fn page_in_ability(&mut self, word: u64, reading: u32) -> Answer {
+    fn base_page_in_ability(&mut self, word: u64, reading: u32) -> Answer {
         if SELECTOR.get(word) != 1 {
             return Answer::Refused(Refusal::Selector);
         }
-        if NONCE.get(word) == NONCE.get(self.talk.own) {
+        if NONCE.get(word) == NONCE.get(self.talk.own_base) {
             return self.break_off(Refusal::Tie, reading);
         }
-        self.talk.held = word;
+        self.talk.held_base = word;
         self.state = State::Ack;
         self.hear(word, reading)
     }
 
-    fn page_in_ack(&mut self, word: u64, reading: u32) -> Answer {
-        if !is_same_page(word, self.talk.held) {
-            return self.break_off(Refusal::Changed, reading);
-        }
-        if ACK.get(word) == 1 {
-            if ECHOED_NONCE.get(word) != NONCE.get(self.talk.own) {
-                return self.break_off(Refusal::Echo, reading);
+    fn next_page_in_ability(&mut self, word: u64, reading: u32) -> Answer {
+        if !self.talk.repeats_held(word) {
+            if TOGGLE.get(word) == TOGGLE.get(self.talk.held()) {
+                return self.break_off(Refusal::Toggle, reading);
             }
-            self.complete(word);
+            self.talk.held_next = word;
+            self.talk.round = Round::Later;
+            self.state = State::Ack;
         }
         self.hear(word, reading)
     }
 
-    fn complete(&mut self, word: u64) {
+    fn base_page_in_ack(&mut self, word: u64, reading: u32) -> Answer {
+        if !is_same_base(word, self.talk.held_base) {
+            return self.break_off(Refusal::Changed, reading);
+        }
+        if ACK.get(word) == 1 {
+            if ECHOED_NONCE.get(word) != NONCE.get(self.talk.own_base) {
+                return self.break_off(Refusal::Echo, reading);
+            }
+            self.talk.partner = registers_of(word);
+            self.fault |= REMOTE_FAULT.get(word) == 1;
+            self.complete();
+        }
+        self.hear(word, reading)
+    }
+
+    fn next_page_in_ack(&mut self, word: u64, reading: u32) -> Answer {
+        if !is_same_next(word, self.talk.held()) {
+            return self.break_off(Refusal::Changed, reading);
+        }
+        if ACK.get(word) == 1 {
+            self.talk.partner_next = registers_of(word);
+            self.complete();
+        }
+        self.hear(word, reading)
+    }
+
+    fn complete(&mut self) {
         self.state = State::Complete;
         self.talk.sent = 0;
-        self.talk.partner = [word as u16, (word >> 16) as u16, (word >> 32) as u16];
         self.received = true;
-        self.fault |= REMOTE_FAULT.get(word) == 1;
     }
 
     fn tick(&mut self, reading: u32, draw: u64) -> Answer {
@@ -322,7 +422,9 @@ impl Device {
                 }
             }
             State::Ability | State::Ack | State::Complete => {
-                if self.may_order(reading) {
+                if self.is_lost(reading) {
+                    self.enter(State::Break, reading);
+                } else if self.may_order(reading) {
                     return self.order();
                 }
             }
@@ -336,11 +438,17 @@ impl Device {
     }
 
     fn leave_break(&mut self, reading: u32, draw: u64) {
-        let [low, middle, high] = self.advertised.map(u64::from);
-        self.talk.own = own_page(low | middle << 16 | high << 32, draw);
+        self.talk.own_base = base_page(word_of(self.advertised), draw, self.talk.is_loaded);
         self.talk.mark = Mark::Waiting(reading);
         self.talk.reader = Reader::Fresh;
         self.state = State::Ability;
+    }
+
+    /// Whether a partner of whom Next Pages are awaited has fallen silent.
+    fn is_lost(&self, reading: u32) -> bool {
+        !self.talk.is_out
+            && self.talk.round != Round::Base
+            && has_run(LOST, self.talk.last_good, reading)
     }
 
     fn may_order(&self, reading: u32) -> bool {
@@ -361,9 +469,10 @@ impl Device {
 
     fn order(&mut self) -> Answer {
         self.talk.is_out = true;
-        Answer::Order(match self.state {
-            State::Ability => self.talk.own,
-            _ => echoing_page(self.talk.own, self.talk.held),
+        Answer::Order(match (self.state, self.talk.round) {
+            (State::Ability, _) => self.talk.own(),
+            (_, Round::Base) => echoing_page(self.talk.own_base, self.talk.held_base),
+            _ => ACK.set(self.talk.own_next, 1),
         })
     }
 
@@ -384,15 +493,38 @@ impl Device {
         if self.state != State::Complete {
             return Answer::Nothing;
         }
-        self.talk.sent += 1;
-        if self.talk.sent < 3 {
+        // The third page sent decides, and each later one.
+        if self.talk.sent < 2 {
+            self.talk.sent += 1;
+            return Answer::Nothing;
+        }
+        if self.talk.has_more() {
+            self.go_on();
             return Answer::Nothing;
         }
         self.settle(reading)
     }
 
+    /// Turns to the next own page: the loaded one, or the null message if none was to follow. Else it is waited for.
+    fn go_on(&mut self) {
+        let before = self.talk.own();
+        let word = if self.talk.is_loaded {
+            word_of(self.talk.next)
+        } else if NEXT_PAGE.get(before) == 0 {
+            NULL_MESSAGE
+        } else {
+            return;
+        };
+        self.talk.is_loaded = false;
+        self.talk.own_next = next_page(before, word);
+        if self.talk.round == Round::Base {
+            self.talk.round = Round::First;
+        }
+        self.state = State::Ability;
+    }
+
     fn settle(&mut self, reading: u32) -> Answer {
-        let outcome = resolve(self.talk.own, self.talk.held);
+        let outcome = resolve(self.talk.own_base, self.talk.held_base);
         self.talk.outcome = Some(outcome);
         self.talk.timer = reading;
         self.state = State::CheckLink;
@@ -419,6 +551,8 @@ impl Device {
             513 => self.read_status(),
             514..=516 => self.advertised[(register - 514) as usize],
             517..=519 => self.talk.partner[(register - 517) as usize],
+            520..=522 => self.talk.next[(register - 520) as usize],
+            523..=525 => self.talk.partner_next[(register - 523) as usize],
             _ => return Answer::Refused(Refusal::Register),
         })
     }
@@ -441,7 +575,11 @@ impl Device {
         match register {
             512 => self.command(value, reading),
             514..=516 => self.advertised[(register - 514) as usize] = value,
-            513 | 517..=519 => {}
+            520..=522 => {
+                self.talk.next[(register - 520) as usize] = value;
+                self.talk.is_loaded |= register == 520;
+            }
+            513 | 517..=519 | 523..=525 => {}
             _ => return Answer::Refused(Refusal::Register),
         }
         Answer::Nothing

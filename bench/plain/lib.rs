@@ -21,6 +21,7 @@ enum Refusal {
     Room = 12,
     Wide = 13,
     Mode = 14,
+    Toggle = 17,
 }
 
 /// The kind of an answer that is a page.

@@ -1,0 +1,87 @@
+/*
+ * What the mixed lists meet, known by their events and the answers: each refusal of a device, and of Next Pages what
+ * stands in names. A comparison that never met one of these would show less than it says.
+ */
+#ifndef BENCH_MET_H
+#define BENCH_MET_H
+
+#include "events.h"
+
+/* Refusals have their numbers. 0 is what need not be met. */
+enum { BASE_WITH_NP = 18, LOADED_PAGE, LOADED_WITH_ACK, NULL_PAGE, OWN_READ, HEARD_READ, LATE_SETTLED, PARTNER_LOST, KINDS };
+
+static const char *const names[KINDS] = {
+    [1] = "Gap", "Cut", "Check", "Selector", "Tie", "Changed", "Echo", "None", "Roles", "Register", "Turn",
+    [17] = "Toggle", "an own base page with NP", "an own Next Page", "an own Next Page with Ack", "the Null message",
+    "520-522 as written", "523-525 as heard", "rate and role after Next Pages", "a partner lost",
+};
+
+static unsigned long met[KINDS];
+
+/* What an ordered page is. */
+static unsigned page_met(uint64_t word)
+{
+    if ((word & ~(uint64_t)(ACK | TOGGLE)) == 0x2001) return NULL_PAGE;
+    if (word % 32 == LOADED) return word & ACK ? LOADED_WITH_ACK : LOADED_PAGE;
+    return word % 32 == 1 && word & NP ? BASE_WITH_NP : 0;
+}
+
+/* Whether a register is forgotten by a tick between this read and the same one before it. */
+static int is_forgotten(const uint64_t *read, const uint64_t *answer)
+{
+    return read[-CELLS] == TICK && read[-2 * CELLS] == READ && read[2 - 2 * CELLS] == read[2] &&
+           maststep_value(answer[-2]) != 0 && maststep_value(answer[0]) == 0;
+}
+
+/* What a register's value shows. After a page was heard or ordered a tick does not end a link but by loss. */
+static unsigned value_met(const uint64_t *read, const uint64_t *answer, uint64_t last)
+{
+    unsigned kind = maststep_kind(last);
+
+    if (read[2] < 520) return 0;
+    if (maststep_value(*answer) != 0) return read[2] < 523 ? OWN_READ : HEARD_READ;
+    return is_forgotten(read, answer) && (kind == MASTSTEP_PAGE || kind == MASTSTEP_ORDER) ? PARTNER_LOST : 0;
+}
+
+/* What an answer shows; the last one before it that is neither nothing nor a value is given. */
+static unsigned answer_met(const uint64_t *event, const uint64_t *answer, uint64_t last)
+{
+    unsigned kind = maststep_kind(*answer), page = page_met(maststep_value(last));
+
+    switch (kind) {
+    case MASTSTEP_ORDER: return page_met(maststep_value(*answer));
+    case MASTSTEP_SETTLED: return page == LOADED_WITH_ACK || page == NULL_PAGE ? LATE_SETTLED : 0;
+    case MASTSTEP_VALUE: return value_met(event, answer, last);
+    default: return kind < BASE_WITH_NP ? kind : 0;
+    }
+}
+
+/* Counts what the events after the prologue meet. */
+static void count_met(const uint64_t *events, const uint64_t *answers, size_t count)
+{
+    uint64_t last = 0;
+    size_t i;
+
+    for (i = PROLOGUE; i < count; i++) {
+        unsigned kind = maststep_kind(answers[i]);
+
+        met[answer_met(events + CELLS * i, answers + i, last)]++;
+        if (kind != MASTSTEP_NOTHING && kind != MASTSTEP_VALUE) last = answers[i];
+    }
+}
+
+/* Names what was never met; answers 0 where there is something. */
+static int is_all_met(void)
+{
+    int all = 1;
+    unsigned kind;
+
+    for (kind = 0; kind < KINDS; kind++) {
+        if (names[kind] == NULL || met[kind] > 0) continue;
+        printf("never met: %s\n", names[kind]);
+        all = 0;
+    }
+    return all;
+}
+
+#endif
