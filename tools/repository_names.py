@@ -74,6 +74,11 @@ class Repository:
             return self.in_file(name, kind == 'tests')
         return getattr(self, kind).get(name)
 
+    def kind(self, name):
+        """The kind of list that a name belongs in, nothing if there is no such name. A file of one of FOLDERS counts as a test."""
+        kinds = ['tests'] if name.split('/')[0] in FOLDERS else ['definitions', 'calls', 'theorems', 'wrong_answers']
+        return next((kind for kind in kinds if self.place(kind, name)), None)
+
     def place_in_words(self, name):
         """The file and line of a name that stands in a sentence; nothing if there is none."""
         for every in (self.definitions, self.calls, self.theorems, self.wrong_answers):

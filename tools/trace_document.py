@@ -3,6 +3,8 @@ import re
 
 # The lists of a sentence, in the order of the document, with the word for each.
 LISTS = {'definitions': 'Definitions', 'calls': 'Calls', 'theorems': 'Theorems', 'tests': 'Tests', 'wrong_answers': 'Wrong answers'}
+# What the sentences that came later do to one of 01.
+CHANGES = {'replaced': 'Replaced by', 'extended': 'Extended by'}
 MADE = '<!-- `tools/trace --write` makes this file from docs/trace.toml. Change that one. -->'
 
 
@@ -27,10 +29,19 @@ def with_links(words, repository):
     return re.sub(r'`([^`]+)`', one, words)
 
 
-def of_sentence(sentence, repository):
-    """The lines of one sentence."""
-    yield f'### {sentence["number"]} ' + (f'"{sentence["words"]}"' if 'words' in sentence else sentence.get('what', ''))
+def called(entry):
+    """The number of a sentence, or of a section, and what it begins with."""
+    return f'{entry["number"]} ' + (f'"{entry["words"]}"' if 'words' in entry else entry.get('what', entry.get('title', '')))
+
+
+def of_sentence(sentence, repository, entries):
+    """The lines of one sentence. Entries are the sentences and sections by their numbers."""
+    yield f'### {called(sentence)}'
     yield ''
+    for kind, word in CHANGES.items():
+        numbers = sentence.get(kind, [])
+        if numbers:
+            yield f'- {word}: ' + ', '.join(called(entries[number]) if number in entries else number for number in numbers)
     for kind, word in LISTS.items():
         names = sentence.get(kind, [])
         if names:
@@ -42,11 +53,12 @@ def of_sentence(sentence, repository):
 
 def of_data(data, repository):
     """The whole document."""
+    entries = {entry['number']: entry for section in data['section'] for entry in (section, *section['sentence'])}
     lines = [f'# {data["title"]}', '', MADE, '', with_links(data['introduction'].strip(), repository), '']
     for section in data['section']:
         lines += [f'## {section["number"]}. {section["title"]}', '']
         if 'note' in section:
             lines += [with_links(section['note'], repository), '']
         for sentence in section['sentence']:
-            lines += of_sentence(sentence, repository)
+            lines += of_sentence(sentence, repository, entries)
     return '\n'.join(lines).rstrip('\n') + '\n'
