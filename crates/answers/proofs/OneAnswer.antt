@@ -11,13 +11,13 @@ use lib.Dec.{eqb, leb, ltb}
 use lib.Pow.{pow-pos}
 use borrow.Author.Tests.{le-leb, lt-leb, ltb-true}
 use Rattle.answers.specs.declared.Refusal.{Refusal}
-use Rattle.answers.specs.declared.Refusal.the-variants.{Gap, Cut, Check, Selector, Tie, Changed, Echo, None, Roles, Register, Turn, Room, Wide, Mode, Odd, Toggle}
+use Rattle.answers.specs.declared.Refusal.the-variants.{Gap, Cut, Check, Selector, Tie, Changed, Echo, None, Roles, Register, Turn, Room, Wide, Mode, Odd, Toggle, Run, Length}
 use Rattle.answers.specs.declared.Answer.{Answer}
 use Rattle.answers.specs.declared.Answer.the-variants.{Nothing, Refused, Page, Order, Settled, Value, Number, Quiet, Unfit}
 use Rattle.answers.specs.Numbers.{numberOf}
 use Rattle.answers.specs.Answers.{Said, said, abilityIsByte, packed}
 
--- The refusal with a number of 01's table; past its end the last.
+-- The refusal with a number; Length for a number that no other has.
 abbrev refusalAt : ℕ → Refusal
 refusalAt n =
     cond (eqb n 1) Gap
@@ -34,7 +34,9 @@ refusalAt n =
     (cond (eqb n 12) Room
     (cond (eqb n 13) Wide
     (cond (eqb n 14) Mode
-    (cond (eqb n 15) Odd Toggle))))))))))))))
+    (cond (eqb n 15) Odd
+    (cond (eqb n 17) Toggle
+    (cond (eqb n 24) Run Length))))))))))))))))
 
 abbrev settledAt : Bool → ℕ → Answer
 settledAt true v = Settled (v - 256) true
@@ -71,6 +73,8 @@ refusal-again Wide = refl
 refusal-again Mode = refl
 refusal-again Odd = refl
 refusal-again Toggle = refl
+refusal-again Run = refl
+refusal-again Length = refl
 
 settled-again : (a : ℕ) (m : Bool) → a < 256 → heard (said (Settled a m)) ≡ Settled a m
 settled-again a true h = let e : leb 256 (a + 256) ≡ true = le-leb 256 (a + 256) (omega arith) in let d : a + 256 - 256 ≡ a = omega arith in rw e (rw d refl)
@@ -108,6 +112,8 @@ never-zero Wide = refl
 never-zero Mode = refl
 never-zero Odd = refl
 never-zero Toggle = refl
+never-zero Run = refl
+never-zero Length = refl
 
 -- The kind of an answer is read off its number.
 pub kind-of-packed : (s : Said) → packed s / 2 ^ 56 ≡ s .kind

@@ -10,7 +10,7 @@ use Rattle.answers.specs.declared.Answer.the-variants.{Nothing, Refused,
 use Rattle.answers.specs.Choices.{if_then_else_, _<?_, _=?_}
 use Rattle.answers.specs.Numbers.{numberOf}
 
--- The kind is a refusal's number in 01's table, 0 for nothing, or, of an answer that is no refusal, one of the numbers from
+-- The kind is a refusal's number in 01's table, which requests have added to, 0 for nothing, or, of an answer that is no refusal, one of the numbers from
 -- 0x80 on that the fixed interfaces give it. The value is what the answer carries, 0 if it carries nothing.
 pub record Said : Type 0 where
   pub kind : ℕ
@@ -22,7 +22,7 @@ saying kind value = record { kind = kind; value = value }
 abbrev pub nothing : Said
 nothing = saying 0 0
 
--- A refusal carries one number from 01's table, and nothing else.
+-- A refusal carries one number from this table, and nothing else.
 abbrev pub refused : Refusal → Said
 refused refusal = saying (numberOf refusal) 0
 
@@ -42,7 +42,7 @@ settledOn ability master = saying 0x82 (if master then ability + 256 else abilit
 abbrev pub registerValue : (value : ℕ) → Said
 registerValue value = saying 0x83 value
 
--- A number: check bits, the positions of a gap, a count of readings, of answers or of bytes.
+-- A number: check bits, the positions of a gap, a count of readings, of answers, of messages or of bytes.
 abbrev pub number : (n : ℕ) → Said
 number n = saying 0x84 n
 

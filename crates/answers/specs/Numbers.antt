@@ -1,7 +1,7 @@
--- 01, "Refusal numbers": the table's first two columns; and what 01's amendments add to them.
+-- 01, "Refusal numbers": the table's first two columns; and what 01's amendments and requests of 02 add to them.
 use Prim.Native.Nat.{ℕ}
 use Rattle.answers.specs.declared.Refusal.{Refusal}
-use Rattle.answers.specs.declared.Refusal.the-variants.{Gap, Cut, Check, Selector, Tie, Changed, Echo, None, Roles, Register, Turn, Room, Wide, Mode, Odd, Toggle}
+use Rattle.answers.specs.declared.Refusal.the-variants.{Gap, Cut, Check, Selector, Tie, Changed, Echo, None, Roles, Register, Turn, Room, Wide, Mode, Odd, Toggle, Run, Length}
 
 -- Each refusal's number.
 abbrev pub numberOf : Refusal → ℕ
@@ -22,3 +22,6 @@ numberOf Mode = 14
 numberOf Odd = 15
 -- 01's amendments, request 7: "Refusals: 17 Toggle (Break)".
 numberOf Toggle = 17
+-- 02, request 8: "25 Length, over 64", "24 Run, an unformatted page first".
+numberOf Run = 24
+numberOf Length = 25

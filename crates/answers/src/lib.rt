@@ -1,4 +1,4 @@
-// The table of refusals of document 01 and of its amendments, and the one way in which an answer becomes a number.
+// The table of refusals of document 01, of its amendments and of requests of 02, and the one way in which an answer becomes a number.
 ghost use mathlib.Core.Path.{_≡_};
 ghost use Prim.Native.Nat.{_+_};
 ghost use Rattle.answers.specs.Choices.{if_then_else_};
@@ -23,6 +23,8 @@ pub enum Refusal {
     Mode,
     Odd,
     Toggle,
+    Run,
+    Length,
 }
 
 // What a call answers. A value stands in the variant that carries it.
@@ -39,7 +41,7 @@ pub enum Answer {
 }
 
 impl Refusal {
-    // The refusal's number in 01's table.
+    // The refusal's number in 01's table, or the one that a request gave it.
     pub fn number(self) -> u8
         ensures { λ r. ⌜ r ≡ numberOf self ⌝ }
     {
@@ -60,6 +62,8 @@ impl Refusal {
             Refusal::Mode => 14,
             Refusal::Odd => 15,
             Refusal::Toggle => 17,
+            Refusal::Run => 24,
+            Refusal::Length => 25,
         }
     }
 }
