@@ -1,0 +1,5 @@
+mod Looking
+mod Handing
+mod Answering
+pub mod Covered
+pub mod Worked

@@ -1,0 +1,5 @@
+pub mod Messages
+pub mod Telling
+pub mod Readers
+pub mod Covering
+pub mod WorkedRuns
