@@ -1,6 +1,8 @@
 -- The customer's demands hold.
 use Rattle.promises.specs.Demands.{Demands}
 use Rattle.line_captures.proofs.ReadingProved.{high-speed-back, low-speed-back}
+use Rattle.page_messages.proofs.Covered.{message-runs}
+use Rattle.page_messages.proofs.Worked.{worked-runs}
 use Rattle.promises.proofs.Single.{no-second-answer}
 use Rattle.promises.proofs.Unmade.{not-made}
 use Rattle.promises.proofs.MadeFacts.{made-by-calls}
@@ -34,4 +36,6 @@ demands =
       each-refusal = each-refusal;
       next-page-links = next-page-links;
       next-page-facts = next-page-facts;
+      message-runs = message-runs;
+      worked-runs = worked-runs;
     }

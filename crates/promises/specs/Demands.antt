@@ -5,6 +5,8 @@
 -- function is safe, ends and answers and leaves what its definition has; and no public function has a `requires`, which `tools/no-requires` checks.
 use Rattle.line_mode.specs.Modes.{hsmMode, lsmMode}
 use Rattle.line_captures.specs.ReadingBack.{ReadingBack}
+use Rattle.page_messages.specs.Covering.{MessageRuns}
+use Rattle.page_messages.specs.WorkedRuns.{WorkedRuns}
 use Rattle.promises.specs.OneAnswer.{NoSecondAnswer}
 use Rattle.promises.specs.NotMade.{NotMade}
 use Rattle.promises.specs.MadeByCalls.{MadeByCalls}
@@ -50,9 +52,13 @@ pub record Demands : Type 0 where
   pub table : Table
   -- "a device that stays in Break" is shut out: a link comes up through every state,
   pub first-link : FirstLink
-  -- and each of 01's refusals is met.
+  -- and each refusal is met.
   pub each-refusal : EachRefusal
   -- Request 7, worked out: two ends that tell each other pages, the hold, a repeat, Toggle, Changed, lost, a head that is swapped;
   pub next-page-links : NextPageLinks
   -- and what holds of Next Pages at every device, some of it beyond the request.
   pub next-page-facts : NextPageFacts
+  -- Request 8: joined again the messages of a run cover it once, they are the only ones that do, and what is told of them names each page once;
+  pub message-runs : MessageRuns
+  -- and runs worked out, a head's model among them, with each refusal.
+  pub worked-runs : WorkedRuns

@@ -1,4 +1,4 @@
--- 01, "Refusal numbers", and request 7: for each number of the table an input that is refused with it, worked out, and what is left, as its last column has it.
+-- 01, "Refusal numbers", and requests 7 and 8: for each number of the table, and of these requests, an input that is refused with it, worked out, and what is left, as its last column has it.
 use Prim.Native.Nat.{ℕ, _+_, _^_}
 use mathlib.Core.Path.{_≡_}
 use mathlib.Core.Bool.{true, false}
@@ -7,7 +7,9 @@ use lib.ListN.{replicate}
 use Rattle.answers.specs.Answers.{Said, refused, pageRead, pageOrdered, spoken, kept}
 use Rattle.answers.specs.declared.Refusal.{Refusal}
 use Rattle.answers.specs.declared.Refusal.the-variants.{Gap, Cut, Check, Selector, Tie, Changed, Echo, None, Roles, Register, Turn, Room, Wide, Mode}
+use Rattle.answers.specs.declared.Refusal.the-variants as refusal
 use Rattle.page_word.specs.Word.{bitsOf}
+use Rattle.page_messages.specs.WorkedRuns.{Refuses}
 use Rattle.line_mode.specs.Modes.{lsmMode}
 use Rattle.line_writer.specs.Transitions.{hasTransition, positionsTo, readingAt}
 use Rattle.line_writer.specs.Writing.{writeOf}
@@ -110,3 +112,7 @@ pub record EachRefusal : Type 0 where
   pub odd : listing (0 ∷ 0 ∷ 0 ∷ 0 ∷ []) ≡ text "refused 15\n"
   -- 17, Toggle: "17 Toggle (Break)"
   pub toggle : WrongToggle
+  -- 24, Run: "an unformatted page first", here one alone: all bits below D13 are one.
+  pub run : Refuses (0x1FFF ∷ []) 0 refusal.Run
+  -- 25, Length: "over 64"
+  pub length : Refuses (replicate 256 0x2001) 768 refusal.Length
