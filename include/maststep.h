@@ -2,7 +2,7 @@
  * Maststep: the pages of a line negotiation, for C (from C99 on) and C++ on x86-64 Linux.
  *
  * Link with libmaststep.a. It needs nothing at all beside it, not even the C library: it calls nothing outside
- * of itself, and has no data of its own that it writes. It has less than 11 KiB of code and constants.
+ * of itself, and has no data of its own that it writes. It has less than 12 KiB of code and constants.
  *
  * Every call answers with one 64-bit number: the top byte is the kind of the answer and the other 56
  * bits are its value. maststep_kind and maststep_value take an answer apart.
@@ -21,16 +21,21 @@ extern "C" {
 #endif
 
 /* The version of this header: one more with each change that a program can see, in a name, a call or an answer. */
-#define MASTSTEP_VERSION 2
+#define MASTSTEP_VERSION 3
 
 /*
- * No call was seen to use more bytes of stack than this, its return address among them. That is measured and not
- * proved: tests/c makes every call of its test on a stack that it has painted, and looks which bytes still are. As
- * functions on x86-64 Linux may, the calls use bytes below the stack pointer too (the red zone); these are counted.
+ * No call but maststep_messages was seen to use more bytes of stack than MASTSTEP_MOST_STACK, its return address among
+ * them, and maststep_messages no more than MASTSTEP_MOST_STACK_OF_MESSAGES: its two readers call one another for each
+ * message, so that it takes the most where all of the 64 pages that a run may have are message pages. That is measured
+ * and not proved: tests/c makes every call of its test on a stack that it has painted, and looks which bytes still are.
+ * As functions on x86-64 Linux may, the calls use bytes below the stack pointer too (the red zone); these are counted.
  */
-enum { MASTSTEP_MOST_STACK = 512 };
+enum {
+    MASTSTEP_MOST_STACK = 512,
+    MASTSTEP_MOST_STACK_OF_MESSAGES = 4096
+};
 
-/* The kinds of answer. 1 to 14 and 17 are refusals; a refusal's value is 0. */
+/* The kinds of answer. 1 to 14, 17, 24 and 25 are refusals; a refusal's value is 0. */
 enum {
     MASTSTEP_NOTHING = 0,     /* no answer; the value is 0 */
     MASTSTEP_GAP = 1,         /* an attempt ended: a gap was not what the pattern of a page asks there */
@@ -44,10 +49,12 @@ enum {
     MASTSTEP_ROLES = 9,       /* refused: the two words insist on the same role */
     MASTSTEP_REGISTER = 10,   /* refused: there is no such register, since the number is not one of 512 to 525 */
     MASTSTEP_TURN = 11,       /* refused: no page is out that could have been sent */
-    MASTSTEP_ROOM = 12,       /* refused: the place is past the end, or too few entries stand from it on */
-    MASTSTEP_WIDE = 13,       /* refused: the word is 2^48 or more */
+    MASTSTEP_ROOM = 12,       /* refused: the place is past the end, or there are too few entries to write into */
+    MASTSTEP_WIDE = 13,       /* refused: the word, or a page of a run, is 2^48 or more */
     MASTSTEP_MODE = 14,       /* refused: the mode is neither 0 nor 1 */
     MASTSTEP_TOGGLE = 17,     /* refused: the partner's new Next Page has the toggle of its page before */
+    MASTSTEP_RUN = 24,        /* refused: the first page of a run is an unformatted one */
+    MASTSTEP_LENGTH = 25,     /* refused: a run has more than 64 pages */
     MASTSTEP_PAGE = 0x80,     /* a good page was read; the value is its word */
     MASTSTEP_ORDER = 0x81,    /* a page is to be sent; the value is its word */
     MASTSTEP_SETTLED = 0x82,  /* rate and role are settled; the value has both: see maststep_resolve */
@@ -163,6 +170,12 @@ enum { MASTSTEP_NULL_MESSAGE = 0x2001 };
 /* No page has more readings than this, in either mode. */
 enum { MASTSTEP_MOST_READINGS = 150 };
 
+/* A run of Next Pages, for maststep_messages. The product of the two is enough cells for every run. */
+enum {
+    MASTSTEP_MOST_PAGES = 64,   /* a run has no more pages, and so no more messages */
+    MASTSTEP_MESSAGE_CELLS = 3  /* of a message: its code, its first place, the number of its unformatted pages */
+};
+
 /* The kind of an answer: its top byte. */
 static inline unsigned maststep_kind(uint64_t answer)
 {
@@ -191,6 +204,12 @@ static inline int maststep_is_master(uint64_t settled)
 static inline uint64_t maststep_ability_bit(unsigned ability)
 {
     return ability > 26 ? 0 : UINT64_C(1) << (MASTSTEP_FIELD_ABILITIES + ability);
+}
+
+/* The word of a page whose three registers, D0-D15, D16-D31 and D32-D47, were read as these values. */
+static inline uint64_t maststep_word_of(uint16_t low, uint16_t middle, uint16_t high)
+{
+    return (uint64_t)high << 32 | (uint64_t)middle << 16 | low;
 }
 
 /* The argument of MASTSTEP_EVENT_WRITE that writes this value to the register of this number. */
@@ -313,6 +332,39 @@ uint64_t maststep_read(const uint32_t *list, size_t length, size_t place, uint32
  * a null pointer.
  */
 uint64_t maststep_run(const uint64_t *events, size_t cells, uint64_t *answers, size_t room);
+
+/*
+ * Tells the messages of a run of heard Next Pages. A message is a message page, D13 one, with the unformatted pages,
+ * D13 zero, that follow it up to the next message page or the end of the run. So each page belongs to one message.
+ * The list gets three cells for each message, in order, from its first cell on: its code, D0-D10 of its message page;
+ * its first place, which is that of its message page, the first page of the run being at 0; and the number of its
+ * unformatted pages. All other cells are left as they were. Answers MASTSTEP_NUMBER with the number of messages, which
+ * for an empty run is 0. No other bit of a page counts: neither its toggle nor NP is looked at.
+ *
+ * Refused, in this order, and the whole list is then left as it was:
+ *   MASTSTEP_LENGTH (25)  there are more than 64 pages;
+ *   MASTSTEP_WIDE (13)    a page is 2^48 or more;
+ *   MASTSTEP_RUN (24)     the first page is an unformatted one;
+ *   MASTSTEP_ROOM (12)    there are fewer cells than three for each message.
+ *
+ * A list that has room for every run, and a look at each message:
+ *
+ *     uint64_t messages[MASTSTEP_MOST_PAGES * MASTSTEP_MESSAGE_CELLS];
+ *     uint64_t answer = maststep_messages(pages, length, messages, MASTSTEP_MOST_PAGES * MASTSTEP_MESSAGE_CELLS);
+ *     if (maststep_kind(answer) == MASTSTEP_NUMBER) {
+ *         for (size_t i = 0; i < maststep_value(answer); i++) {
+ *             const uint64_t *message = messages + MASTSTEP_MESSAGE_CELLS * i;
+ *             ... message[0] is its code, pages[message[1]] its message page; message[2] unformatted pages follow
+ *         }
+ *     }
+ *
+ * It takes more stack than the other calls: see MASTSTEP_MOST_STACK_OF_MESSAGES.
+ *
+ * The caller sees to it that pages points to length pages in a row and messages to room cells in a row, aligned as
+ * uint64_t is, none of them in both, and that nothing else writes the pages, or reads or writes the cells, during the
+ * call. With length or room 0 nothing is read or written through that pointer, and it may be a null pointer.
+ */
+uint64_t maststep_messages(const uint64_t *pages, size_t length, uint64_t *messages, size_t room);
 
 #ifdef __cplusplus
 }

@@ -32,9 +32,9 @@ static uint64_t packed(uint64_t kind, uint64_t value)
 
 void begin(void)
 {
-    const uint64_t events[3] = {MASTSTEP_EVENT_READ, 0, MASTSTEP_STATUS};
+    const uint64_t events[3] = {MASTSTEP_EVENT_READ, 0, MASTSTEP_STATUS}, page = MASTSTEP_NULL_MESSAGE;
     uint32_t list[MASTSTEP_MOST_READINGS];
-    uint64_t answer;
+    uint64_t answer, message[MASTSTEP_MESSAGE_CELLS];
     size_t next;
 
     same(1, maststep_check(UINT64_C(1) << 47), packed(0x84, 0x8005));
@@ -44,5 +44,7 @@ void begin(void)
     same(5, maststep_read(list, 86, 0, MASTSTEP_LSM, &next), packed(0x80, 0));
     same(6, maststep_run(events, 3, &answer, 1), packed(0x84, 1));
     same(7, answer, packed(0x83, 8));
+    same(8, maststep_messages(&page, 1, message, MASTSTEP_MESSAGE_CELLS), packed(0x84, 1));
+    same(9, message[0], 1);
     leave(0);
 }

@@ -2,8 +2,9 @@
  * The C library as a C program sees it: through include/maststep.h, linked with libmaststep.a.
  *
  * What is expected here is written out from the scope's own tables (positions, windows, times, and P1-P14,
- * which test_table_of_01 runs in their order) and from its amendments, with no code in common with the library. A
- * check that holds prints nothing. The last line is 'N passed, M failed', and the exit status is 1 where M is not 0.
+ * which test_table_of_01 runs in their order), from its amendments and from the request of message runs, with no code
+ * in common with the library. A check that holds prints nothing. The last line is 'N passed, M failed', and the exit
+ * status is 1 where M is not 0.
  *
  * Compiled with ON_PAINTED_STACK, it makes every call on a painted stack, and looks how deep that was too.
  */
@@ -64,6 +65,8 @@ static void test_header(void)
     same("Wide is 13", MASTSTEP_WIDE, 13);
     same("Mode is 14", MASTSTEP_MODE, 14);
     same("Toggle is 17", MASTSTEP_TOGGLE, 17);
+    same("Run is 24", MASTSTEP_RUN, 24);
+    same("Length is 25", MASTSTEP_LENGTH, 25);
     same("a page is 80", MASTSTEP_PAGE, 0x80);
     same("an order is 81", MASTSTEP_ORDER, 0x81);
     same("settled is 82", MASTSTEP_SETTLED, 0x82);
@@ -73,7 +76,9 @@ static void test_header(void)
     same("unfit is 86", MASTSTEP_UNFIT, 0x86);
     same("HSM is mode 0", MASTSTEP_HSM, 0);
     same("LSM is mode 1", MASTSTEP_LSM, 1);
-    same("the version is 2", MASTSTEP_VERSION, 2);
+    same("a run has at most 64 pages", MASTSTEP_MOST_PAGES, 64);
+    same("a message has three cells", MASTSTEP_MESSAGE_CELLS, 3);
+    same("the version is 3", MASTSTEP_VERSION, 3);
 }
 
 static void test_names_of_events_and_registers(void)
@@ -108,6 +113,8 @@ static void test_names_of_events_and_registers(void)
     same("the link latch is bit 2 of 513", MASTSTEP_STATUS_LINK_LATCH, 1 << 2);
     same("512 written with 9200 hex", maststep_write_argument(512, 0x9200), UINT64_C(512) * 65536 + 0x9200);
     same("the largest argument", maststep_write_argument(UINT32_MAX, 0xffff), WIDEST);
+    same("a page by its registers", maststep_word_of(0xe806, 0x8009, 0x342d), UINT64_C(0x342d8009e806));
+    same("all bits of a page", maststep_word_of(0xffff, 0xffff, 0xffff), (UINT64_C(1) << 48) - 1);
 }
 
 static void test_names_of_a_word(void)
@@ -1350,6 +1357,260 @@ static void test_run_lost(void)
     runs("lost", 3 * events, events, packed(0x84, events));
 }
 
+/* ---- message runs */
+
+enum { PAGES = 65, ROOM = 192, AHEAD = 4, LENT = ROOM + 5 };
+enum { MESSAGE_PAGE = 0x2000 };
+
+/* A run that is being made, and the cells that its messages have to get. */
+static uint64_t pages[PAGES], due[3 * PAGES];
+static size_t run_length, messages;
+
+/* The cells that calls are lent, after some that they are not. */
+static uint64_t told[AHEAD + LENT];
+
+static void empties_run(void)
+{
+    run_length = 0;
+    messages = 0;
+}
+
+/* Adds a page. All bits but the code and D13, which mean nothing here, are one in every second page and zero in the others. */
+static void adds_page(uint64_t code_and_d13)
+{
+    pages[run_length] = code_and_d13 + (run_length % 2 ? UINT64_C(0xffffffffd800) : 0);
+    run_length++;
+}
+
+/* Adds a message: a message page with this code and so many unformatted pages, whose bits below D11 are as any code's. */
+static void adds_message(uint64_t code, size_t unformatted)
+{
+    uint64_t *cell = due + 3 * messages++;
+    size_t i;
+
+    cell[0] = code;
+    cell[1] = run_length;
+    cell[2] = unformatted;
+    adds_page(code + MESSAGE_PAGE);
+    for (i = 0; i < unformatted; i++) adds_page(i % 3 * 1000);
+}
+
+/* Adds messages alike until the run has 64 pages. */
+static void fills_run(size_t unformatted)
+{
+    while (run_length < 64) adds_message(run_length, unformatted);
+}
+
+/* The number of cells that a call has altered, but for so many from the first lent one on. */
+static uint64_t cells_altered(size_t but)
+{
+    uint64_t n = 0;
+    size_t i;
+
+    for (i = 0; i < AHEAD + LENT; i++)
+        if ((i < AHEAD || i >= AHEAD + but) && told[i] != guard_of_answer(i)) n++;
+    return n;
+}
+
+/* One call with so many cells: its answer, the cells of each message if it tells them, and that nothing else is altered. */
+static void tells(const char *what, size_t room, uint64_t answer)
+{
+    static uint64_t before[PAGES];
+    const size_t cells_told = maststep_kind(answer) == 0x84 ? 3 * (size_t)maststep_value(answer) : 0;
+    char name[96];
+    size_t i;
+
+    memcpy(before, pages, sizeof pages);
+    for (i = 0; i < AHEAD + LENT; i++) told[i] = guard_of_answer(i);
+    same(what, maststep_messages(pages, run_length, told + AHEAD, room), answer);
+    for (i = 0; i < cells_told; i++) {
+        snprintf(name, sizeof name, "%s: message %u, cell %u", what, (unsigned)i / 3, (unsigned)i % 3);
+        same(name, told[AHEAD + i], due[i]);
+    }
+    snprintf(name, sizeof name, "%s: other cells altered", what);
+    same(name, cells_altered(cells_told), 0);
+    snprintf(name, sizeof name, "%s: pages altered", what);
+    same(name, memcmp(before, pages, sizeof pages) != 0, 0);
+}
+
+/* The run's messages are told where there is room for them, just enough or more, and refused with one cell too few. */
+static void tells_all(const char *what)
+{
+    tells(what, 3 * messages, packed(0x84, messages));
+    tells(what, 3 * messages + 1, packed(0x84, messages));
+    tells(what, LENT, packed(0x84, messages));
+    if (messages > 0) tells(what, 3 * messages - 1, packed(12, 0));
+}
+
+/* A head tells its model: the message page with code 6 and two unformatted pages, as docs/SETTLING.md has them loaded. */
+static void test_messages_of_a_head(void)
+{
+    static const uint64_t model[3] = {UINT64_C(0x00000009a006), UINT64_C(0x342d424d8045), UINT64_C(0x003731200030)};
+
+    empties_run();
+    adds_message(6, 2);
+    memcpy(pages, model, sizeof model);
+    tells_all("a head's model");
+    /* As they are heard: with Ack, and each with another toggle than the page before. */
+    pages[0] += ACK + TOGGLE;
+    pages[1] += ACK;
+    pages[2] += ACK + TOGGLE;
+    tells_all("a head's model as it is heard");
+}
+
+static void test_messages_in_order(void)
+{
+    size_t room;
+
+    empties_run();
+    tells_all("no page");
+    adds_message(1, 0);
+    tells_all("one message page");
+    adds_message(2047, 0);
+    tells_all("two message pages");
+    adds_message(0, 5);
+    adds_message(5, 1);
+    adds_message(5, 0);
+    adds_message(5, 2);
+    tells_all("six messages");
+    for (room = 0; room < 18; room++) tells("six messages, too little room", room, packed(12, 0));
+    pages[run_length] = UINT64_MAX;
+    tells_all("six messages, and a wide page past the run");
+    pages[run_length] = 6;
+    tells_all("six messages, and an unformatted page past the run");
+}
+
+/* The longest runs, of 64 pages. The first of them takes the most stack. */
+static void test_messages_of_64_pages(void)
+{
+    empties_run();
+    fills_run(0);
+    tells_all("64 messages");
+    same("192 cells are enough for every run", MASTSTEP_MOST_PAGES * MASTSTEP_MESSAGE_CELLS, 3 * messages);
+    empties_run();
+    fills_run(1);
+    tells_all("32 messages of two pages");
+    empties_run();
+    fills_run(63);
+    tells_all("one message of 64 pages");
+    empties_run();
+    adds_message(3, 62);
+    adds_message(4, 0);
+    tells_all("a message of 63 pages and one of one");
+    empties_run();
+    adds_message(3, 0);
+    adds_message(4, 62);
+    tells_all("a message of one page and one of 63");
+}
+
+/* Every bit of a page in turn: D0-D10 are the code, and by D13 alone a page begins a message. */
+static void test_bits_of_a_page(void)
+{
+    unsigned bit;
+
+    for (bit = 0; bit < 48; bit++) {
+        const uint64_t one = UINT64_C(1) << bit;
+        char what[64];
+
+        empties_run();
+        adds_message(bit < 11 ? one : 0, 0);
+        pages[0] = one | MESSAGE_PAGE;
+        snprintf(what, sizeof what, "a message page with D%u", bit);
+        tells_all(what);
+        empties_run();
+        adds_message(0, bit != 13);
+        if (bit == 13) adds_message(0, 0);
+        pages[1] = one;
+        snprintf(what, sizeof what, "a second page with D%u", bit);
+        tells_all(what);
+    }
+    empties_run();
+    adds_message(2047, 2);
+    pages[0] = WIDEST;
+    pages[1] = pages[2] = WIDEST - MESSAGE_PAGE;
+    tells_all("2^48 - 1, and the largest unformatted page twice");
+}
+
+static void test_messages_without_lists(void)
+{
+    empties_run();
+    same("no page, no cell, no lists", maststep_messages(NULL, 0, NULL, 0), packed(0x84, 0));
+    told[0] = guard_of_answer(0);
+    same("no list of pages", maststep_messages(NULL, 0, told, 1), packed(0x84, 0));
+    same("no list of pages: the cell", told[0], guard_of_answer(0));
+    same("no page, no list of messages", maststep_messages(pages, 0, NULL, 0), packed(0x84, 0));
+    adds_message(6, 0);
+    same("one message, no list of messages", maststep_messages(pages, 1, NULL, 0), packed(12, 0));
+    pages[0] = 6;
+    same("an unformatted page, no list of messages", maststep_messages(pages, 1, NULL, 0), packed(24, 0));
+}
+
+/* A run that is refused, with this number whatever room there is. */
+static void refuses_run(const char *what, uint64_t number)
+{
+    static const size_t rooms[] = {0, 1, 3, ROOM, LENT};
+    size_t i;
+
+    for (i = 0; i < sizeof rooms / sizeof rooms[0]; i++) tells(what, rooms[i], packed(number, 0));
+}
+
+/* More than 64 pages, also where everything else is wrong too. */
+static void test_messages_length(void)
+{
+    empties_run();
+    fills_run(0);
+    adds_message(6, 0);
+    refuses_run("65 message pages", 25);
+    empties_run();
+    adds_message(6, 64);
+    refuses_run("one message of 65 pages", 25);
+    pages[0] = 6;
+    refuses_run("65 pages, an unformatted one first", 25);
+    pages[64] = UINT64_MAX;
+    refuses_run("65 pages, an unformatted one first, the last wide", 25);
+    pages[0] = UINT64_MAX;
+    refuses_run("65 pages, the first and the last wide", 25);
+}
+
+/* A run of 64 pages with a wide one at a place, and where that is not the first, with an unformatted one first as well. */
+static void refuses_wide_page(uint64_t page, size_t place)
+{
+    empties_run();
+    fills_run(3);
+    pages[place] = page;
+    refuses_run("a wide page", 13);
+    if (place == 0) return;
+    pages[0] = 6;
+    refuses_run("a wide page, an unformatted one first", 13);
+}
+
+static void test_messages_wide(void)
+{
+    static const uint64_t wide[] = {UINT64_C(1) << 48, (UINT64_C(1) << 48) + MESSAGE_PAGE, UINT64_C(1) << 63, UINT64_MAX};
+    size_t i, place;
+
+    for (i = 0; i < sizeof wide / sizeof wide[0]; i++) {
+        for (place = 0; place < 64; place++) refuses_wide_page(wide[i], place);
+        empties_run();
+        adds_page(0);
+        pages[0] = wide[i];
+        refuses_run("a wide page alone", 13);
+    }
+}
+
+static void test_messages_unformatted_first(void)
+{
+    empties_run();
+    adds_page(6);
+    refuses_run("an unformatted page alone", 24);
+    adds_message(6, 2);
+    refuses_run("an unformatted page, then a message", 24);
+    empties_run();
+    fills_run(0);
+    pages[0] = WIDEST - MESSAGE_PAGE;
+    refuses_run("an unformatted page, then 63 messages", 24);
+}
+
 /* ---- P1-P14 */
 
 /* A page written into the list from its first entry on: the time from the first reading to the last. */
@@ -1410,9 +1671,12 @@ static void test_table_of_01(void)
 static void test_stack(void)
 {
 #ifdef ON_PAINTED_STACK
-    printf("the deepest call used %u bytes of stack\n", (unsigned)deepest);
+    printf("the deepest call used %u bytes of stack, the deepest of maststep_messages %u\n", (unsigned)deepest,
+           (unsigned)deepest_of_messages);
     same("a call deeper than MASTSTEP_MOST_STACK", deepest > MASTSTEP_MOST_STACK, 0);
     same("a call without a return address on the stack", deepest < 8, 0);
+    same("a call deeper than MASTSTEP_MOST_STACK_OF_MESSAGES", deepest_of_messages > MASTSTEP_MOST_STACK_OF_MESSAGES, 0);
+    same("no return address of maststep_messages on the stack", deepest_of_messages < 8, 0);
 #endif
 }
 
@@ -1453,6 +1717,14 @@ int main(void)
     test_run_toggle();
     test_run_changed_next_page();
     test_run_lost();
+    test_messages_of_a_head();
+    test_messages_in_order();
+    test_messages_of_64_pages();
+    test_bits_of_a_page();
+    test_messages_without_lists();
+    test_messages_length();
+    test_messages_wide();
+    test_messages_unformatted_first();
     test_table_of_01();
     test_stack();
     printf("%u passed, %u failed\n", passed, failed);

@@ -38,11 +38,11 @@ __asm__(".text\n"
         "    ret\n");
 
 /* Far more than a call may use, so that one which uses too much is told and does no harm. */
-enum { STACK_BYTES = 8 * MASTSTEP_MOST_STACK };
+enum { STACK_BYTES = 4 * MASTSTEP_MOST_STACK_OF_MESSAGES };
 static _Alignas(16) unsigned char painted_stack[STACK_BYTES];
 
-/* The most bytes that a call of the library has used so far. */
-static size_t deepest;
+/* The most bytes that a call of the library has used so far: maststep_messages, and any other. */
+static size_t deepest_of_messages, deepest;
 
 /* Not the same for all bytes, so that a call does not write them by chance. */
 static unsigned char paint(size_t place)
@@ -53,13 +53,14 @@ static unsigned char paint(size_t place)
 static uint64_t on_painted_stack(function_of_any_kind function, uint64_t a, uint64_t b, uint64_t c, uint64_t d, uint64_t e, uint64_t f)
 {
     const struct painted_call call = {function, painted_stack + STACK_BYTES, {a, b, c, d, e, f}};
+    size_t *most = function == (function_of_any_kind)maststep_messages ? &deepest_of_messages : &deepest;
     size_t place;
     uint64_t answer;
 
     for (place = 0; place < STACK_BYTES; place++) painted_stack[place] = paint(place);
     answer = call_on_stack(&call);
     for (place = 0; place < STACK_BYTES && painted_stack[place] == paint(place); place++) continue;
-    if (deepest < STACK_BYTES - place) deepest = STACK_BYTES - place;
+    if (*most < STACK_BYTES - place) *most = STACK_BYTES - place;
     return answer;
 }
 
@@ -75,5 +76,7 @@ static uint64_t on_painted_stack(function_of_any_kind function, uint64_t a, uint
     ON_STACK(maststep_read, ADDRESS(list), length, place, mode, ADDRESS(next), 0)
 #define maststep_run(events, cells, answers, room) \
     ON_STACK(maststep_run, ADDRESS(events), cells, ADDRESS(answers), room, 0, 0)
+#define maststep_messages(pages, length, messages, room) \
+    ON_STACK(maststep_messages, ADDRESS(pages), length, ADDRESS(messages), room, 0, 0)
 
 #endif

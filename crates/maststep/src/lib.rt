@@ -3,6 +3,7 @@ ghost use mathlib.Core.Path.{_≡_};
 ghost use Rattle.answers.specs.Answers.{packed};
 ghost use Rattle.page_check_bits.specs.CheckBits.{checked};
 ghost use Rattle.page_resolve.specs.Resolving.{resolveSays};
+ghost use Rattle.page_messages.specs.Telling.{messagesOf};
 ghost use Rattle.line_mode.specs.Gaps.{judged};
 ghost use Rattle.line_writer.specs.Writing.{writeOf};
 ghost use Rattle.line_captures.specs.Captures.{saidOfRead, readOf};
@@ -79,4 +80,13 @@ pub extern "C" fn maststep_run(events: &[u64], answers: &mut [u64]) -> u64
     ensures leaves { λ _. ⌜ now (answers .exit) ≡ runOf (now (events .entry)) (now (answers .entry)) .list ⌝ }
 {
     port_step::run(events, answers).packed()
+}
+
+// The messages of a run of heard pages, three cells each: their number, or 25, 13, 24, 12.
+#[no_mangle]
+pub extern "C" fn maststep_messages(pages: &[u64], messages: &mut [u64]) -> u64
+    ensures says { λ r. ⌜ r ≡ packed (messagesOf (now (pages .entry)) (now (messages .entry)) .says) ⌝ }
+    ensures leaves { λ _. ⌜ now (messages .exit) ≡ messagesOf (now (pages .entry)) (now (messages .entry)) .list ⌝ }
+{
+    page_messages::messages(pages, messages).packed()
 }
