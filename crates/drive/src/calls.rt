@@ -1,7 +1,8 @@
-// The calls and their answers. What a call answers is never longer than the call itself, so the answers fit where the calls did.
+// The calls and their answers. What a call answers is never more than three times as long as the call itself, so there is room for the answers.
 ghost use mathlib.Core.Path.{_≡_};
-ghost use Prim.Native.Nat.{_+_, _≤_};
+ghost use Prim.Native.Nat.{_+_, _*_, _≤_};
 ghost use lib.ListN.{length};
+use crate::message_runs::messages;
 use crate::runs::run;
 use answers::Answer;
 use answers::Refusal;
@@ -23,8 +24,8 @@ fn wide(entry: u32) -> u64 {
 }
 
 // No answer cells.
-fn tell_none(answers: &mut [u64; 65536], told: usize) -> usize
-    requires { ⌜ told + 1 ≤ 65536 ⌝ }
+fn tell_none(answers: &mut [u64; 196608], told: usize) -> usize
+    requires { ⌜ told + 1 ≤ 196608 ⌝ }
     ensures { λ r. ⌜ r ≡ told + 1 ⌝ }
 {
     answers[told] = 0;
@@ -32,8 +33,8 @@ fn tell_none(answers: &mut [u64; 65536], told: usize) -> usize
 }
 
 // One answer cell.
-fn tell_one(answers: &mut [u64; 65536], told: usize, answer: u64) -> usize
-    requires { ⌜ told + 2 ≤ 65536 ⌝ }
+fn tell_one(answers: &mut [u64; 196608], told: usize, answer: u64) -> usize
+    requires { ⌜ told + 2 ≤ 196608 ⌝ }
     ensures { λ r. ⌜ r ≡ told + 2 ⌝ }
 {
     answers[told] = 1;
@@ -54,13 +55,13 @@ fn take_entries(cells: &[u64; 65536], from: usize, count: usize, list: &mut [u32
 
 // An answer and the entries of a list.
 fn tell_entries(
-    answers: &mut [u64; 65536],
+    answers: &mut [u64; 196608],
     told: usize,
     answer: u64,
     list: &[u32],
     count: usize,
 ) -> usize
-    requires { ⌜ (told + count + 2 ≤ 65536) × (count ≤ length (now list)) ⌝ }
+    requires { ⌜ (told + count + 2 ≤ 196608) × (count ≤ length (now list)) ⌝ }
     ensures { λ r. ⌜ r ≡ told + count + 2 ⌝ }
 {
     answers[told] = 1 + (count as u64);
@@ -78,12 +79,12 @@ fn write(
     cells: &[u64; 65536],
     from: usize,
     size: usize,
-    answers: &mut [u64; 65536],
+    answers: &mut [u64; 196608],
     told: usize,
     list: &mut [u32],
 ) -> usize
-    requires { ⌜ (4 ≤ size) × (from + size ≤ 65536) × (told + 2 ≤ from) × (65536 ≤ length (now list)) ⌝ }
-    ensures { λ r. ⌜ r ≤ from + size ⌝ }
+    requires { ⌜ (4 ≤ size) × (from + size ≤ 65536) × (told + 6 ≤ 3 * from) × (65536 ≤ length (now list)) ⌝ }
+    ensures { λ r. ⌜ r ≤ 3 * (from + size) ⌝ }
 {
     let count = size - 4;
     take_entries(cells, from + 4, count, list);
@@ -99,8 +100,8 @@ fn write(
 }
 
 // Two answer cells.
-fn tell_two(answers: &mut [u64; 65536], told: usize, answer: u64, more: u64) -> usize
-    requires { ⌜ told + 3 ≤ 65536 ⌝ }
+fn tell_two(answers: &mut [u64; 196608], told: usize, answer: u64, more: u64) -> usize
+    requires { ⌜ told + 3 ≤ 196608 ⌝ }
     ensures { λ r. ⌜ r ≡ told + 3 ⌝ }
 {
     answers[told] = 2;
@@ -124,12 +125,12 @@ fn read(
     cells: &[u64; 65536],
     from: usize,
     size: usize,
-    answers: &mut [u64; 65536],
+    answers: &mut [u64; 196608],
     told: usize,
     list: &mut [u32],
 ) -> usize
-    requires { ⌜ (2 ≤ size) × (from + size ≤ 65536) × (told + 2 ≤ from) × (65536 ≤ length (now list)) ⌝ }
-    ensures { λ r. ⌜ r ≤ from + size ⌝ }
+    requires { ⌜ (2 ≤ size) × (from + size ≤ 65536) × (told + 6 ≤ 3 * from) × (65536 ≤ length (now list)) ⌝ }
+    ensures { λ r. ⌜ r ≤ 3 * (from + size) ⌝ }
 {
     let count = size - 2;
     take_entries(cells, from + 2, count, list);
@@ -140,8 +141,8 @@ fn read(
 }
 
 // Operation 5: own, partner.
-fn resolve(cells: &[u64; 65536], from: usize, answers: &mut [u64; 65536], told: usize) -> usize
-    requires { ⌜ (from + 2 ≤ 65536) × (told + 2 ≤ from) ⌝ }
+fn resolve(cells: &[u64; 65536], from: usize, answers: &mut [u64; 196608], told: usize) -> usize
+    requires { ⌜ (from + 2 ≤ 65536) × (told + 6 ≤ 3 * from) ⌝ }
     ensures { λ r. ⌜ r ≡ told + 2 ⌝ }
 {
     tell_one(
@@ -167,10 +168,10 @@ fn tell_edges(
     from: usize,
     count: usize,
     mode: LineMode,
-    answers: &mut [u64; 65536],
+    answers: &mut [u64; 196608],
     told: usize,
 )
-    requires { ⌜ (from + count ≤ 65536) × (told + count ≤ 65536) ⌝ }
+    requires { ⌜ (from + count ≤ 65536) × (told + count ≤ 196608) ⌝ }
 {
     let mut reader = Reader::Fresh;
     let mut i: usize = 0;
@@ -188,11 +189,11 @@ fn edges(
     cells: &[u64; 65536],
     from: usize,
     size: usize,
-    answers: &mut [u64; 65536],
+    answers: &mut [u64; 196608],
     told: usize,
 ) -> usize
-    requires { ⌜ (1 ≤ size) × (from + size ≤ 65536) × (told + 2 ≤ from) ⌝ }
-    ensures { λ r. ⌜ r ≤ from + size ⌝ }
+    requires { ⌜ (1 ≤ size) × (from + size ≤ 65536) × (told + 6 ≤ 3 * from) ⌝ }
+    ensures { λ r. ⌜ r ≤ 3 * (from + size) ⌝ }
 {
     let mode = cells[from];
     if 2 <= mode {
@@ -204,18 +205,17 @@ fn edges(
     told + 1 + count
 }
 
-// One call: an operation and its arguments, which start at a place.
-fn answer_one(
+// A call whose arguments are a few numbers and no list: operations 1, 2 and 5. Any other operation is unknown.
+fn answer_numbers(
     cells: &[u64; 65536],
     operation: u64,
     from: usize,
     size: usize,
-    answers: &mut [u64; 65536],
+    answers: &mut [u64; 196608],
     told: usize,
-    list: &mut [u32],
 ) -> usize
-    requires { ⌜ (from + size ≤ 65536) × (told + 2 ≤ from) × (65536 ≤ length (now list)) ⌝ }
-    ensures { λ r. ⌜ r ≤ from + size ⌝ }
+    requires { ⌜ (from + size ≤ 65536) × (told + 6 ≤ 3 * from) ⌝ }
+    ensures { λ r. ⌜ r ≤ 3 * (from + size) ⌝ }
 {
     if operation == 1 {
         if 1 <= size {
@@ -231,6 +231,27 @@ fn answer_one(
             );
         }
     }
+    if operation == 5 {
+        if 2 <= size {
+            return resolve(cells, from, answers, told);
+        }
+    }
+    tell_none(answers, told)
+}
+
+// One call: an operation and its arguments, which start at a place.
+fn answer_one(
+    cells: &[u64; 65536],
+    operation: u64,
+    from: usize,
+    size: usize,
+    answers: &mut [u64; 196608],
+    told: usize,
+    list: &mut [u32],
+) -> usize
+    requires { ⌜ (from + size ≤ 65536) × (told + 6 ≤ 3 * from) × (65536 ≤ length (now list)) ⌝ }
+    ensures { λ r. ⌜ r ≤ 3 * (from + size) ⌝ }
+{
     if operation == 3 {
         if 4 <= size {
             return write(cells, from, size, answers, told, list);
@@ -241,11 +262,6 @@ fn answer_one(
             return read(cells, from, size, answers, told, list);
         }
     }
-    if operation == 5 {
-        if 2 <= size {
-            return resolve(cells, from, answers, told);
-        }
-    }
     if operation == 6 {
         return run(cells, from, size, answers, told);
     }
@@ -254,18 +270,21 @@ fn answer_one(
             return edges(cells, from, size, answers, told);
         }
     }
-    tell_none(answers, told)
+    if operation == 8 {
+        return messages(cells, from, size, answers, told);
+    }
+    answer_numbers(cells, operation, from, size, answers, told)
 }
 
 // All calls in the first cells, up to one that the cells do not hold whole; the number of cells of their answers.
 pub(crate) fn answer_all(
     cells: &[u64; 65536],
     count: usize,
-    answers: &mut [u64; 65536],
+    answers: &mut [u64; 196608],
     list: &mut [u32],
 ) -> usize
     requires { ⌜ (count ≤ 65536) × (65536 ≤ length (now list)) ⌝ }
-    ensures { λ r. ⌜ r ≤ count ⌝ }
+    ensures { λ r. ⌜ r ≤ 3 * count ⌝ }
 {
     let mut at: usize = 0;
     let mut told: usize = 0;

@@ -44,8 +44,8 @@ fn put_cell(bytes: &mut [u8], at: usize, cell: u64)
 }
 
 // The bytes of the first cells.
-pub(crate) fn to_bytes(cells: &[u64; 65536], count: usize, bytes: &mut [u8])
-    requires { ⌜ (count ≤ 65536) × (524288 ≤ length (now bytes)) ⌝ }
+pub(crate) fn to_bytes(cells: &[u64; 196608], count: usize, bytes: &mut [u8])
+    requires { ⌜ (count ≤ 196608) × (1572864 ≤ length (now bytes)) ⌝ }
 {
     let mut i: usize = 0;
     while i < count {

@@ -20,6 +20,9 @@ run-on-spec =
     (λ c. search needs)
     slice-aggregate-run-2
     (λ c κs. search needs)
+    (λ c. search needs)
+    (λ c. search needs)
+    (λ c. search needs)
     (λ c κs. search needs)
     (λ c. search needs)
     (λ c. search needs)
