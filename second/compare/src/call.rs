@@ -10,8 +10,9 @@ pub const READ: u64 = 4;
 pub const RESOLVE: u64 = 5;
 pub const RUN: u64 = 6;
 pub const EDGES: u64 = 7;
+pub const MESSAGES: u64 = 8;
 /// All operations, each with the fewest arguments with which it has an answer.
-pub const OPERATIONS: [(u64, usize); 7] = [
+pub const OPERATIONS: [(u64, usize); 8] = [
     (CHECK, 1),
     (JUDGE, 2),
     (WRITE, 4),
@@ -19,6 +20,7 @@ pub const OPERATIONS: [(u64, usize); 7] = [
     (RESOLVE, 2),
     (RUN, 3),
     (EDGES, 1),
+    (MESSAGES, 0),
 ];
 
 /// More arguments than this are not printed.
@@ -72,6 +74,10 @@ impl Call {
         call
     }
 
+    pub fn messages(pages: &[u64]) -> Call {
+        Call::new(MESSAGES, pages)
+    }
+
     /// The call as it is sent.
     pub fn cells(&self) -> Vec<u64> {
         let mut cells = vec![self.operation, self.arguments.len() as u64];
@@ -100,6 +106,7 @@ impl fmt::Display for Call {
             RESOLVE => "resolve",
             RUN => "run",
             EDGES => "edges",
+            MESSAGES => "messages",
             _ => "unknown",
         };
         write!(out, "operation {} ({name}), ", self.operation)?;

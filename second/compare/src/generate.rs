@@ -2,6 +2,7 @@
 
 use crate::call::Call;
 use crate::captures::any_short_capture;
+use crate::message_runs::{any_length, message_run, short_length};
 use crate::random::Random;
 use crate::runs::random_run;
 use crate::words::two_words;
@@ -254,6 +255,18 @@ pub fn short_run_call(random: &mut Random) -> Call {
         call.arguments.push(random.below(8));
     }
     call
+}
+
+/// A run of heard pages. About every second one has nothing wrong.
+pub fn messages_call(random: &mut Random) -> Call {
+    let length = any_length(random);
+    Call::messages(&message_run(random, length))
+}
+
+/// The same, with few pages most times.
+pub fn short_messages_call(random: &mut Random) -> Call {
+    let length = short_length(random);
+    Call::messages(&message_run(random, length))
 }
 
 pub fn first_reading(random: &mut Random) -> u64 {

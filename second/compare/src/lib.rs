@@ -1,10 +1,9 @@
 //! Compares the programs `drive` and `listing` with the reference, through a pipe.
 //!
-//! A test makes calls (`call`, `generate`, `captures`, `words`, `runs`, `joined`), sends
-//! them to `drive` in batches (`drive`, `program`, `process`) and holds the output against
-//! what the reference gives (`model`, `agreement`). `windows` looks at the times of
-//! `joined`. `listing` does the same for the program
-//! of that name.
+//! A test makes calls (`call`, `generate`, `captures`, `words`, `message_runs`, `runs`,
+//! `joined`), sends them to `drive` in batches (`drive`, `program`, `process`) and holds the
+//! output against what the reference gives (`model`, `agreement`). `windows` looks at the
+//! times of `joined`. `listing` does the same for the program of that name.
 
 pub mod agreement;
 pub mod call;
@@ -20,6 +19,7 @@ pub mod joined;
 pub mod kinds;
 pub mod listing;
 pub mod long_runs;
+pub mod message_runs;
 pub mod model;
 pub mod next_page;
 pub mod process;

@@ -1,8 +1,9 @@
 //! What `drive` has to do, over the reference: bytes in, bytes out.
 
-use crate::call::{Call, CHECK, EDGES, JUDGE, READ, RESOLVE, RUN, WRITE};
+use crate::call::{Call, CHECK, EDGES, JUDGE, MESSAGES, READ, RESOLVE, RUN, WRITE};
 use crate::cells::{modulo_2_to_32, to_bytes, whole_cells, MOST_CELLS};
-use reference::calls;
+use reference::messages::CELLS_OF_A_MESSAGE;
+use reference::{answer, calls};
 
 /// Everything that `drive` writes for this input.
 pub fn output(input: &[u8]) -> Vec<u8> {
@@ -53,6 +54,7 @@ pub fn answer_cells(call: &Call) -> Vec<u64> {
         // Cells after the last whole event are not looked at.
         (RUN, cells) => calls::run(cells.as_chunks().0),
         (EDGES, [mode, readings @ ..]) => edges(*mode, readings),
+        (MESSAGES, pages) => messages(pages),
         _ => Vec::new(),
     }
 }
@@ -79,6 +81,17 @@ fn edges(mode: u64, readings: &[u64]) -> Vec<u64> {
     }
 }
 
+/// `drive` has room for a message at every page, so it never lacks room. Only the cells of
+/// the messages that are there are answered, and after a refusal none.
+fn messages(pages: &[u64]) -> Vec<u64> {
+    let mut room = vec![0; CELLS_OF_A_MESSAGE * pages.len()];
+    let answer = calls::messages(pages, &mut room);
+    let messages = answer::number_of(answer).unwrap_or(0) as usize;
+    let mut cells = vec![answer];
+    cells.extend(&room[..CELLS_OF_A_MESSAGE * messages]);
+    cells
+}
+
 fn all_modulo_2_to_32(cells: &[u64]) -> Vec<u32> {
     cells.iter().map(|cell| modulo_2_to_32(*cell)).collect()
 }
@@ -86,7 +99,6 @@ fn all_modulo_2_to_32(cells: &[u64]) -> Vec<u32> {
 #[cfg(test)]
 mod tests {
     use super::*;
-    use reference::answer;
 
     #[test]
     fn whole_calls_are_answered_and_a_cut_call_is_not() {
@@ -128,5 +140,14 @@ mod tests {
             assert_eq!(answer_cells(&call), [fresh_status]);
         }
         assert_eq!(answer_cells(&Call::new(RUN, &[4, 0])), []);
+    }
+
+    #[test]
+    fn a_run_answers_three_cells_a_message_and_a_refused_one_only_the_refusal() {
+        let call = Call::messages(&[0x2005, 0, 0, 0x2006]);
+        let expected = vec![answer::number(2), 5, 0, 2, 6, 3, 0];
+        assert_eq!(answer_cells(&call), expected);
+        assert_eq!(answer_cells(&Call::messages(&[])), [answer::number(0)]);
+        assert_eq!(answer_cells(&Call::messages(&[0, 0x2006])), [answer::RUN]);
     }
 }

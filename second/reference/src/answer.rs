@@ -24,7 +24,8 @@ pub const ROLES: u64 = refusal(9);
 pub const REGISTER: u64 = refusal(10);
 /// Refusal 11: a page is told to be sent where none is out.
 pub const TURN: u64 = refusal(11);
-/// Refusal 12: the place is past the end, or the page does not fit from there on.
+/// Refusal 12: the place is past the end, or the page does not fit from there on, or there
+/// are fewer cells than the messages need.
 pub const ROOM: u64 = refusal(12);
 /// Refusal 13: the word is 2^48 or more.
 pub const WIDE: u64 = refusal(13);
@@ -32,6 +33,10 @@ pub const WIDE: u64 = refusal(13);
 pub const MODE: u64 = refusal(14);
 /// Refusal 17: the Next Page has the same toggle as the page that is held.
 pub const TOGGLE: u64 = refusal(17);
+/// Refusal 24: the run begins with an unformatted page.
+pub const RUN: u64 = refusal(24);
+/// Refusal 25: the run has more than 64 pages.
+pub const LENGTH: u64 = refusal(25);
 /// The gap is at the quiet limit or longer.
 pub const QUIET: u64 = 0x85 << 56;
 /// The gap is neither a number of positions nor quiet.
@@ -50,7 +55,7 @@ pub const fn kind(answer: u64) -> u64 {
     answer >> 56
 }
 
-/// The refusal with this number of document 01.
+/// The refusal with this number of document 01 or 02.
 pub const fn refusal(number: u64) -> u64 {
     number << 56
 }
@@ -85,9 +90,18 @@ pub const fn register(value: u16) -> u64 {
     (REGISTER_VALUE << 56) | value as u64
 }
 
-/// A plain number: check bits, a count of readings, or the positions of a gap.
+/// A plain number: check bits, a count of readings or of messages, or the positions of a
+/// gap.
 pub const fn number(value: u64) -> u64 {
     (NUMBER << 56) | value
+}
+
+/// The plain number that this answer is, if it is one.
+pub const fn number_of(answer: u64) -> Option<u64> {
+    match kind(answer) {
+        NUMBER => Some(answer & ((1 << 56) - 1)),
+        _ => None,
+    }
 }
 
 #[cfg(test)]
@@ -115,7 +129,11 @@ mod tests {
         assert_eq!(WIDE, 0x0D00_0000_0000_0000);
         assert_eq!(MODE, 0x0E00_0000_0000_0000);
         assert_eq!(TOGGLE, 0x1100_0000_0000_0000);
+        assert_eq!(RUN, 0x1800_0000_0000_0000);
+        assert_eq!(LENGTH, 0x1900_0000_0000_0000);
         assert_eq!(number(81), 0x8400_0000_0000_0051);
+        assert_eq!(number_of(number(81)), Some(81));
+        assert_eq!([number_of(LENGTH), number_of(good(81))], [None, None]);
         assert_eq!(QUIET, 0x8500_0000_0000_0000);
         assert_eq!(UNFIT, 0x8600_0000_0000_0000);
     }

@@ -1,11 +1,13 @@
 //! The calls that programs outside can make, each with its answer as one number.
-//! Wrong things are looked at in 01's order: Mode, Wide, Room.
+//! Wrong things are looked at in 01's order: Mode, Wide, Room; those of a message run in
+//! 02's: Length, Wide, Run, and then Room.
 
 use crate::device::Device;
 use crate::event::event;
 use crate::line_mode::line_mode;
+use crate::messages::Message;
 use crate::resolve::{self, Settled};
-use crate::{answer, check, gap, page, reader};
+use crate::{answer, check, gap, messages, page, reader};
 
 /// The check bits of a word, or Wide.
 pub fn check(word: u64) -> u64 {
@@ -97,6 +99,21 @@ pub fn step(device: &mut Device, [kind, reading, argument]: [u64; 3]) -> u64 {
     }
 }
 
+/// Puts the messages of a run of pages into the room, three cells each, and answers their
+/// number. Cells past the last message stay as they were, and all of them on a refusal.
+pub fn messages(pages: &[u64], room: &mut [u64]) -> u64 {
+    let messages = match messages::messages(pages) {
+        Ok(messages) => messages,
+        Err(refusal) => return refusal,
+    };
+    let cells: Vec<u64> = messages.iter().flat_map(Message::cells).collect();
+    match room.get_mut(..cells.len()) {
+        Some(taken) => taken.copy_from_slice(&cells),
+        None => return answer::ROOM,
+    }
+    answer::number(messages.len() as u64)
+}
+
 #[cfg(test)]
 mod tests {
     use super::*;
@@ -183,5 +200,46 @@ mod tests {
         assert_eq!(edges(0, &[0, 0]), Ok(vec![answer::NOTHING, answer::GAP]));
         assert_eq!(edges(1, &[]), Ok(vec![]));
         assert_eq!(edges(2, &[0, 0]), Err(answer::MODE));
+    }
+
+    #[test]
+    fn messages_take_three_cells_each_and_leave_the_others() {
+        let mut room = [7; 8];
+        let answer = messages(&[0x2005, 0, 0x27FF], &mut room);
+        assert_eq!(answer, answer::number(2));
+        assert_eq!(room, [5, 0, 1, 0x7FF, 2, 0, 7, 7]);
+    }
+
+    #[test]
+    fn exactly_three_cells_a_message_are_room_enough() {
+        let pages = [0x2001, 0x2002, 0, 0x2003];
+        for (cells, expected) in [
+            (0, answer::ROOM),
+            (8, answer::ROOM),
+            (9, answer::number(3)),
+            (10, answer::number(3)),
+        ] {
+            let mut room = vec![7; cells];
+            assert_eq!(messages(&pages, &mut room), expected);
+            assert_eq!(room == vec![7; cells], expected == answer::ROOM);
+        }
+        // No messages need no room.
+        assert_eq!(messages(&[], &mut []), answer::number(0));
+    }
+
+    #[test]
+    fn a_refused_run_is_refused_before_the_room_and_writes_nothing() {
+        let too_long = [0x2001; 65];
+        let refused = [
+            (&too_long[..], answer::LENGTH),
+            (&[0x2001, TOO_WIDE], answer::WIDE),
+            (&[0, 0x2001], answer::RUN),
+        ];
+        for (pages, refusal) in refused {
+            assert_eq!(messages(pages, &mut []), refusal);
+            let mut room = [7; 200];
+            assert_eq!(messages(pages, &mut room), refusal);
+            assert_eq!(room, [7; 200]);
+        }
     }
 }

@@ -1,5 +1,5 @@
 //! A second program for the page, the line and the negotiation, written from document 01
-//! and its amendments alone.
+//! and its amendments alone; the message runs are written from wish 8 of document 02.
 //!
 //! It is made to be read and believed, not to be fast: every rule of 01 stands here
 //! once, in the shape in which 01 says it.
@@ -12,6 +12,7 @@ pub mod event;
 pub mod gap;
 pub mod line_mode;
 pub mod listing;
+pub mod messages;
 pub mod page;
 pub mod reader;
 pub mod resolve;

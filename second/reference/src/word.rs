@@ -7,11 +7,16 @@ pub struct Field {
 }
 
 pub const SELECTOR: Field = Field::new(0, 5);
+/// The code of a message page.
+pub const CODE: Field = Field::new(0, 11);
 pub const ECHOED_NONCE: Field = Field::new(5, 5);
 /// The higher bit of a base page's pause is at the place of a Next Page's toggle.
 pub const TOGGLE: Field = Field::new(11, 1);
 pub const FORCED_ROLE: Field = Field::new(12, 1);
 pub const REMOTE_FAULT: Field = Field::new(13, 1);
+/// A base page's remote fault is at the place where a Next Page says which kind it is: one
+/// in a message page, zero in an unformatted one.
+pub const MESSAGE_PAGE: Field = Field::new(13, 1);
 pub const ACK: Field = Field::new(14, 1);
 pub const NEXT_PAGE: Field = Field::new(15, 1);
 pub const NONCE: Field = Field::new(16, 5);
@@ -61,10 +66,12 @@ mod tests {
     #[test]
     fn the_fields_lie_where_01_says() {
         assert_eq!(SELECTOR.ones(), 0x1F);
+        assert_eq!(CODE.ones(), 0x7FF);
         assert_eq!(ECHOED_NONCE.ones(), 0x3E0);
         assert_eq!(TOGGLE.ones(), 0x800);
         assert_eq!(FORCED_ROLE.ones(), 0x1000);
         assert_eq!(REMOTE_FAULT.ones(), 0x2000);
+        assert_eq!(MESSAGE_PAGE.ones(), 0x2000);
         assert_eq!(ACK.ones(), 0x4000);
         assert_eq!(NEXT_PAGE.ones(), 0x8000);
         assert_eq!(NONCE.ones(), 0x1F_0000);

@@ -2,7 +2,7 @@
 
 use compare::agreement::assert_scripts_agree;
 use compare::call::{
-    all_cells, printed, Call, CHECK, EDGES, JUDGE, OPERATIONS, READ, RESOLVE, RUN, WRITE,
+    all_cells, printed, Call, CHECK, EDGES, JUDGE, MESSAGES, OPERATIONS, READ, RESOLVE, RUN, WRITE,
 };
 use compare::cells::{to_bytes, whole_cells, MOST_CELLS};
 use compare::{drive, model};
@@ -52,7 +52,7 @@ fn assert_no_cells(unanswered: impl IntoIterator<Item = Call>) {
 fn unknown_operations_answer_no_cells() {
     let with_arguments =
         |operation| [0, 1, 7, 500].map(|count| Call::new(operation, &vec![1; count]));
-    assert_no_cells([0, 8, 99, u64::MAX].into_iter().flat_map(with_arguments));
+    assert_no_cells([0, 9, 99, u64::MAX].into_iter().flat_map(with_arguments));
 }
 
 #[test]
@@ -130,10 +130,11 @@ fn a_call_with_more_arguments_than_the_input_has_is_not_answered() {
         (1 << 32) + 1,
         (1 << 61) + 2,
         (1 << 61) + 3,
+        (1 << 61) + 4,
     ];
     let mut scripts = Vec::new();
     for (index, number_of_arguments) in numbers.into_iter().enumerate() {
-        let operation = [CHECK, JUDGE, WRITE, READ, EDGES, RESOLVE, RUN, 99][index];
+        let operation = [CHECK, JUDGE, WRITE, READ, EDGES, RESOLVE, RUN, 99, MESSAGES][index];
         let mut cells = known_check().cells();
         cells.extend([operation, number_of_arguments, 0, 0, 0, 0]);
         cells.extend(known_check().cells());

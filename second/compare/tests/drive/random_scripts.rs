@@ -1,14 +1,16 @@
 //! Random input, most of it nonsense: `drive` must end well and do what the model does.
 
 use compare::agreement::assert_scripts_agree;
-use compare::call::{all_cells, Call, OPERATIONS};
+use compare::call::{all_cells, Call, MESSAGES, OPERATIONS};
 use compare::cells::to_bytes;
 use compare::generate::{
-    check_call, edges_call, judge_call, read_call, resolve_call, short_run_call, write_call,
+    check_call, edges_call, judge_call, read_call, resolve_call, short_messages_call,
+    short_run_call, write_call,
 };
 use compare::kinds::{Kind, Kinds};
 use compare::model;
 use compare::random::Random;
+use reference::answer::number_of;
 
 const SCRIPTS: usize = 300;
 
@@ -43,6 +45,12 @@ const SCRIPT_KINDS: &[Kind<Vec<u8>>] = &[
     ("has an answered resolving and an answered run", |script| {
         answered(script, &[5, 6])
     }),
+    ("has a run with two messages or more", |script| {
+        has_a_message_run(script, |cells| cells.len() >= 7)
+    }),
+    ("has a refused run of pages", |script| {
+        has_a_message_run(script, |cells| number_of(cells[0]).is_none())
+    }),
     ("has a call with too few arguments", |script| {
         let has_too_few = |call: &Call| {
             OPERATIONS.iter().any(|(operation, needed)| {
@@ -55,7 +63,7 @@ const SCRIPT_KINDS: &[Kind<Vec<u8>>] = &[
         let calls = model::whole_calls(script);
         calls
             .iter()
-            .any(|call| call.operation == 0 || call.operation >= 8)
+            .any(|call| call.operation == 0 || call.operation >= 9)
     }),
 ];
 
@@ -67,6 +75,13 @@ fn answered(script: &[u8], operations: &[u64]) -> bool {
         let mut of_this = calls.iter().filter(|call| call.operation == *operation);
         of_this.any(is_answered)
     })
+}
+
+/// Whether the script has a message run with answer cells of this kind.
+fn has_a_message_run(script: &[u8], is_of_this_kind: fn(&[u64]) -> bool) -> bool {
+    let calls = model::whole_calls(script);
+    let mut runs = calls.iter().filter(|call| call.operation == MESSAGES);
+    runs.any(|run| is_of_this_kind(&model::answer_cells(run)))
 }
 
 /// The number of bytes after the last whole call.
@@ -99,9 +114,9 @@ fn small_cells(random: &mut Random) -> Vec<u8> {
 
 fn small_cell(random: &mut Random) -> u64 {
     match random.below(20) {
-        0 => 8 + random.below(10),
+        0 => 9 + random.below(10),
         1 => random.any_number() >> random.below(64),
-        _ => random.below(8),
+        _ => random.below(9),
     }
 }
 
@@ -119,8 +134,8 @@ fn calls(random: &mut Random) -> Vec<u8> {
 }
 
 fn any_call(random: &mut Random) -> Call {
-    match random.below(12) {
-        0 => Call::new(random.pick(&[0, 8, 99, u64::MAX]), &[3; 4]),
+    match random.below(13) {
+        0 => Call::new(random.pick(&[0, 9, 99, u64::MAX]), &[3; 4]),
         1 => Call::new(random.pick(&OPERATIONS).0, &[1]),
         2 => write_call(random),
         3 => Call::write(random.below(3), 0, 0, 0, &[9; 3]),
@@ -129,6 +144,7 @@ fn any_call(random: &mut Random) -> Call {
         7 => edges_call(random),
         8 => resolve_call(random),
         9 => short_run_call(random),
+        10 => short_messages_call(random),
         _ => check_call(random),
     }
 }
