@@ -1,4 +1,4 @@
-"""Asks the proved program drive: the one client in Python, for tools/write-page, samples/make and tests/peers/mdio.
+"""Asks the proved program drive: the one client in Python, for tools/write-page, tools/messages, samples/make and tests/peers/mdio.
 
 drive takes cells, numbers of 64 bits with the low byte first: for each call the operation, the number of its arguments, and these. It answers
 each call with the number of its answer cells and these. The first call proves and builds the program where it is not there, which takes
@@ -10,7 +10,7 @@ import subprocess
 import sys
 
 TOOLS = pathlib.Path(__file__).resolve().parent
-CHECK, JUDGE, WRITE, READ, RESOLVE, RUN, EDGES = range(1, 8)
+CHECK, JUDGE, WRITE, READ, RESOLVE, RUN, EDGES, MESSAGES = range(1, 9)
 # The kinds of answers that are no refusals: a refusal's kind is its number in 01's table, and nothing is 0.
 PAGE, ORDER, SETTLED, VALUE, NUMBER, QUIET, UNFIT = range(0x80, 0x87)
 HSM, LSM = 0, 1
