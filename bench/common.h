@@ -55,4 +55,18 @@ PART_OF_MAIN void print_sum(uint64_t sum)
     fwrite(line, 1, 17, stdout);
 }
 
+/* Names each thing that has a name and was never met; answers 0 where there is one. */
+static inline int is_all_met(const char *const *names, const unsigned long *met, unsigned kinds)
+{
+    int all = 1;
+    unsigned kind;
+
+    for (kind = 0; kind < kinds; kind++) {
+        if (names[kind] == NULL || met[kind] > 0) continue;
+        printf("never met: %s\n", names[kind]);
+        all = 0;
+    }
+    return all;
+}
+
 #endif

@@ -107,7 +107,7 @@ int main(int argc, char **argv)
             fill_events(events, argv[1], i);
             if (!compare(i, length)) return 1;
         }
-        return strcmp(argv[1], "mixed") == 0 && !is_all_met();
+        return strcmp(argv[1], "mixed") == 0 && !is_all_met(names, met, KINDS);
     }
     if (strcmp(argv[2], "both") == 0) {
         if (length > LASTING / 2) return 2;

@@ -70,18 +70,4 @@ static void count_met(const uint64_t *events, const uint64_t *answers, size_t co
     }
 }
 
-/* Names what was never met; answers 0 where there is something. */
-static int is_all_met(void)
-{
-    int all = 1;
-    unsigned kind;
-
-    for (kind = 0; kind < KINDS; kind++) {
-        if (names[kind] == NULL || met[kind] > 0) continue;
-        printf("never met: %s\n", names[kind]);
-        all = 0;
-    }
-    return all;
-}
-
 #endif

@@ -3,6 +3,7 @@
 #![no_std]
 
 mod device;
+mod messages;
 
 /// The refusals, by the scope's numbers.
 #[derive(Clone, Copy)]
@@ -22,6 +23,8 @@ enum Refusal {
     Wide = 13,
     Mode = 14,
     Toggle = 17,
+    Run = 24,
+    Length = 25,
 }
 
 /// The kind of an answer that is a page.
@@ -365,6 +368,39 @@ pub unsafe extern "C" fn plain_run(
     let events = core::slice::from_raw_parts(events, cells);
     let answers = core::slice::from_raw_parts_mut(answers, room);
     packed(device::run(events, answers))
+}
+
+/// As `maststep_messages`, the messages told in one of two ways.
+#[inline(always)]
+unsafe fn messages_by(
+    told_by: fn(&[u64], &mut [u64]),
+    pages: *const u64,
+    length: usize,
+    list: *mut u64,
+    room: usize,
+) -> u64 {
+    let pages = core::slice::from_raw_parts(pages, length);
+    let list = core::slice::from_raw_parts_mut(list, room);
+    packed(messages::messages(pages, list, told_by))
+}
+
+/// As `maststep_messages`, by two functions that call one another.
+///
+/// # Safety
+/// `pages` points to `length` pages that nothing writes during the call, and `list` to `room` cells that
+/// nothing else uses.
+#[no_mangle]
+pub unsafe extern "C" fn plain_messages(pages: *const u64, length: usize, list: *mut u64, room: usize) -> u64 {
+    messages_by(messages::by_two_readers, pages, length, list, room)
+}
+
+/// The same in one loop.
+///
+/// # Safety
+/// As `plain_messages`.
+#[no_mangle]
+pub unsafe extern "C" fn plain_messages_in_one_loop(pages: *const u64, length: usize, list: *mut u64, room: usize) -> u64 {
+    messages_by(messages::by_one_loop, pages, length, list, room)
 }
 
 #[panic_handler]
