@@ -10,9 +10,9 @@ use lib.ListN.{length, take, drop, length-append}
 use lib.Seq.{take-append-seam, drop-append-seam}
 use borrow.Author.Tests.{le-leb, lt-leb, lt-ltb, le-ltb, ltb-true, ltb-false, not-true, not-false}
 use Rattle.page_word.proofs.ComputedTest.{and-left, and-right}
-use Rattle.page_messages.specs.Messages.{isMessagePage, Message, pagesOf, joined, unformattedAhead, messagesIn}
+use Rattle.page_messages.specs.Messages.{isMessagePage, Message, pagesOf, joined, allUnformatted, areMessages, IsRun, unformattedAhead, messagesIn}
 use Rattle.page_messages.specs.Telling.{Told, toldFrom, unformattedFirst}
-use Rattle.page_messages.specs.Covering.{allUnformatted, areMessages, IsRun, pagesNamed, holds, timesHeld, MessageRuns}
+use Rattle.page_messages.specs.Covering.{pagesNamed, holds, timesHeld, MessageRuns}
 use Rattle.page_messages.proofs.Looking.{at-most}
 use Rattle.page_messages.proofs.Handing.{three-each}
 

@@ -1,37 +1,22 @@
 -- 02, request 8: "Joined again they cover the run once."
 use Prim.Native.Nat.{ℕ, _+_, _*_, _≤_}
 use mathlib.Core.Path.{_≡_}
-use mathlib.Core.Bool.{Bool, true, false, not, _&&_}
+use mathlib.Core.Bool.{Bool, false, _&&_}
 use mathlib.Core.List.{List, [], _∷_, map}
 use lib.ListN.{length, take, drop}
 use Rattle.answers.specs.Choices.{if_then_else_, _≤?_, _<?_}
-use Rattle.page_messages.specs.Messages.{isMessagePage, Message, pagesOf, joined, messagesIn}
+use Rattle.page_messages.specs.Messages.{Message, pagesOf, IsRun, messagesIn}
 use Rattle.page_messages.specs.Telling.{Told, toldFrom, messageCells, unformattedFirst}
 
--- Whether no page of a list is a message page.
-unfoldable pub allUnformatted : (pages : List ℕ) → Bool
-allUnformatted [] = true
-allUnformatted (page ∷ later) = not (isMessagePage page) && allUnformatted later
-
--- Whether each of several messages is "a message page, the unformatted pages that belong to it".
-unfoldable pub areMessages : (messages : List Message) → Bool
-areMessages [] = true
-areMessages (m ∷ later) = (isMessagePage (m .page) && allUnformatted (m .unformatted)) && areMessages later
-
--- That pages are a run of these messages.
-pub record IsRun (pages : List ℕ) (messages : List Message) : Type 0 where
-  pub each : areMessages messages ≡ true
-  pub again : joined messages ≡ pages
-
--- The pages that what is told of a message names: from its place on, its message page and its unformatted pages.
+-- The pages that are named by what is told of a message: from its place on, a message page and so many unformatted ones.
 abbrev pub pagesNamed : (pages : List ℕ) (told : Told) → List ℕ
 pagesNamed pages told = take (1 + told .count) (drop (told .place) pages)
 
--- Whether a place is one of theirs,
+-- Whether the page at a place is one of these,
 abbrev pub holds : (at : ℕ) (told : Told) → Bool
 holds at told = told .place ≤? at && at <? told .place + (1 + told .count)
 
--- and of how many messages it is.
+-- and of how many messages it is one.
 unfoldable pub timesHeld : (at : ℕ) (told : List Told) → ℕ
 timesHeld at [] = 0
 timesHeld at (t ∷ later) = let others = timesHeld at later in if holds at t then 1 + others else others
@@ -49,6 +34,6 @@ pub record MessageRuns : Type 0 where
   -- and each page of the run in just one message, and no place past the run.
   pub once : (pages : List ℕ) (messages : List Message) (at : ℕ) → IsRun pages messages
       → timesHeld at (toldFrom 0 messages) ≡ (if at <? length pages then 1 else 0)
-  -- "three cells a message" (fixed interfaces); and at most as many messages as pages, so that 192 cells have room for those of every run.
+  -- "three cells a message" (fixed interfaces); and at most as many messages as pages, so that 192 cells have room for those of 64 pages.
   pub three-cells : (pages : List ℕ) → length (messageCells pages) ≡ 3 * length (messagesIn pages)
   pub at-most : (pages : List ℕ) → length (messagesIn pages) ≤ length pages

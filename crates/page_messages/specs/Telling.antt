@@ -15,7 +15,7 @@ pub record Told : Type 0 where
   pub place : ℕ
   pub count : ℕ
 
--- What is told of messages, the first of which stands at a place: the next one's place is this place and the number of this one's pages.
+-- What is told of messages, the first of which stands at a place: the next one stands as many places further on as this one has pages.
 unfoldable pub toldFrom : (place : ℕ) (messages : List Message) → List Told
 toldFrom place [] = []
 toldFrom place (m ∷ later) =
@@ -40,7 +40,7 @@ abbrev pub unformattedFirst : (pages : List ℕ) → Bool
 unformattedFirst [] = false
 unformattedFirst (page ∷ later) = not (isMessagePage page)
 
--- What is told of a run: the number of its messages, and the cells of these at the head of the list; "then 12 if `room` is less than three cells a message; on a refusal
+-- What is told of a run: the number of its messages, and the cells of these from the list's first cell on; "then 12 if `room` is less than three cells a message; on a refusal
 -- nothing is written, and cells past the last message stay as they were" (fixed interfaces).
 unfoldable pub tellingOf : (pages list : List ℕ) → Leaves
 tellingOf pages list =

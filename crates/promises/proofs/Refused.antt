@@ -105,5 +105,5 @@ each-refusal =
       odd = refl;
       toggle = one-end .toggle;
       run = refl;
-      length = refl;
+      too-long = refl;
     }

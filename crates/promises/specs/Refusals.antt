@@ -9,7 +9,7 @@ use Rattle.answers.specs.declared.Refusal.{Refusal}
 use Rattle.answers.specs.declared.Refusal.the-variants.{Gap, Cut, Check, Selector, Tie, Changed, Echo, None, Roles, Register, Turn, Room, Wide, Mode}
 use Rattle.answers.specs.declared.Refusal.the-variants as refusal
 use Rattle.page_word.specs.Word.{bitsOf}
-use Rattle.page_messages.specs.WorkedRuns.{Refuses}
+use Rattle.page_messages.specs.WorkedRuns.{CellsKept}
 use Rattle.line_mode.specs.Modes.{lsmMode}
 use Rattle.line_writer.specs.Transitions.{hasTransition, positionsTo, readingAt}
 use Rattle.line_writer.specs.Writing.{writeOf}
@@ -112,7 +112,7 @@ pub record EachRefusal : Type 0 where
   pub odd : listing (0 ∷ 0 ∷ 0 ∷ 0 ∷ []) ≡ text "refused 15\n"
   -- 17, Toggle: "17 Toggle (Break)"
   pub toggle : WrongToggle
-  -- 24, Run: "an unformatted page first", here one alone: all bits below D13 are one.
-  pub run : Refuses (0x1FFF ∷ []) 0 refusal.Run
-  -- 25, Length: "over 64"
-  pub length : Refuses (replicate 256 0x2001) 768 refusal.Length
+  -- 24, Run, from the reading of a message run: "an unformatted page first", here one alone: all bits below D13 are one.
+  pub run : CellsKept (0x1FFF ∷ []) 3 refusal.Run
+  -- 25, Length, there too: "over 64", here 256 pages with three cells for each.
+  pub too-long : CellsKept (replicate 256 0x2001) 768 refusal.Length
