@@ -1,15 +1,15 @@
 -- What the call says and leaves, refusal by refusal, over the definitions alone.
 use mathlib.Core.Path.{_≡_, refl, sym, ap, _∙_}
 use mathlib.Core.Bool.{Bool, true, false, not}
-use mathlib.Core.List.{List, [], _∷_, _++_}
-use Prim.Native.Nat.{ℕ, _+_, _*_, _<_, _≤_}
+use mathlib.Core.List.{List, [], _∷_}
+use Prim.Native.Nat.{ℕ, _*_, _<_, _≤_}
 use native.Mathlib.Omega.{arith}
-use lib.ListN.{length, drop, getD}
+use lib.ListN.{length, getD}
 use lib.Seq.{sets, sets-eq}
 use borrow.Author.Tests.{lt-ltb, le-ltb}
 use Rattle.answers.specs.declared.Refusal.the-variants.{Room, Wide, Run, Length}
 use Rattle.answers.specs.Choices.{if_then_else_}
-use Rattle.answers.specs.Answers.{Said, Leaves, number, leaving, putAt, kept}
+use Rattle.answers.specs.Answers.{Said, Leaves, number, leaving, kept}
 use Rattle.page_messages.specs.Messages.{isMessagePage, messagesIn}
 use Rattle.page_messages.specs.Telling.{toldFrom, cellsOf, messageCells, anyWide, unformattedFirst, tellingOf, messagesOf}
 use Rattle.page_messages.proofs.Handing.{three-each}

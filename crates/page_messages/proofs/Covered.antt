@@ -2,7 +2,7 @@
 use mathlib.Core.Path.{_≡_, refl, sym, ap, ap₂, _∙_}
 use mathlib.Core.Bool.{Bool, true, false, cond, not, _&&_}
 use mathlib.Core.List.{List, [], _∷_, _++_, map, append-assoc}
-use Prim.Native.Nat.{ℕ, zero, suc, _+_, _<_, _≤_}
+use Prim.Native.Nat.{ℕ, suc, _+_, _<_, _≤_}
 use native.Mathlib.Nat.{zero-add}
 use native.Mathlib.Omega.{arith}
 use lib.Dec.{leb, ltb}
@@ -11,31 +11,10 @@ use lib.Seq.{take-append-seam, drop-append-seam}
 use borrow.Author.Tests.{le-leb, lt-leb, lt-ltb, le-ltb, ltb-true, ltb-false, not-true, not-false}
 use Rattle.page_word.proofs.ComputedTest.{and-left, and-right}
 use Rattle.page_messages.specs.Messages.{isMessagePage, Message, pagesOf, joined, allUnformatted, areMessages, IsRun, unformattedAhead, messagesIn}
-use Rattle.page_messages.specs.Telling.{Told, toldFrom, unformattedFirst}
-use Rattle.page_messages.specs.Covering.{pagesNamed, holds, timesHeld, MessageRuns}
-use Rattle.page_messages.proofs.Looking.{at-most}
+use Rattle.page_messages.specs.Telling.{toldFrom, unformattedFirst}
+use Rattle.page_messages.specs.Covering.{pagesNamed, timesHeld, MessageRuns}
+use Rattle.page_messages.proofs.Looking.{ahead-unformatted, ahead-and-rest, passed, at-most}
 use Rattle.page_messages.proofs.Handing.{three-each}
-
--- The pages ahead of the first message page are unformatted,
-ahead-unformatted : (l : List ℕ) → allUnformatted (unformattedAhead l) ≡ true
-unfolding allUnformatted unformattedAhead
-ahead-unformatted [] = refl
-ahead-unformatted (page ∷ later) = by (isMessagePage page) refl (ahead-unformatted later)
-  where
-    by : (t : Bool) → isMessagePage page ≡ t → allUnformatted (unformattedAhead later) ≡ true → allUnformatted (cond t [] (page ∷ unformattedAhead later)) ≡ true
-    by true e h = refl
-    by false e h = rw e h
-
--- and with what follows them they are all pages.
-ahead-and-rest : (l : List ℕ) → unformattedAhead l ++ drop (length (unformattedAhead l)) l ≡ l
-unfolding unformattedAhead
-ahead-and-rest [] = refl
-ahead-and-rest (page ∷ later) = by (isMessagePage page) (ahead-and-rest later)
-  where
-    by : (t : Bool) → unformattedAhead later ++ drop (length (unformattedAhead later)) later ≡ later
-        → cond t [] (page ∷ unformattedAhead later) ++ drop (length (cond t [] (page ∷ unformattedAhead later))) (page ∷ later) ≡ page ∷ later
-    by true h = refl
-    by false h = ap (λ (rest : List ℕ). page ∷ rest) h
 
 whole-in : (l : List ℕ) → areMessages (messagesIn l) ≡ true
 unfolding areMessages messagesIn
@@ -58,24 +37,16 @@ joined-in (page ∷ later) = by (isMessagePage page) (joined-in later)
     by true h = ap (λ (rest : List ℕ). page ∷ (unformattedAhead later ++ rest)) h ∙ ap (λ (rest : List ℕ). page ∷ rest) (ahead-and-rest later)
     by false h = h
 
-none-ahead : (l : List ℕ) → unformattedFirst l ≡ false → unformattedAhead l ≡ []
+none-stray : (l : List ℕ) → unformattedFirst l ≡ false → unformattedAhead l ≡ []
 unfolding unformattedAhead
-none-ahead [] h = refl
-none-ahead (page ∷ later) h = rw (not-false (isMessagePage page) h)
+none-stray [] h = refl
+none-stray (page ∷ later) h = rw (not-false (isMessagePage page) h)
 
 is-run : (pages : List ℕ) → unformattedFirst pages ≡ false → IsRun pages (messagesIn pages)
 is-run pages h =
-    record { each = whole-in pages; again = joined-in pages ∙ ap (λ (ahead : List ℕ). drop (length ahead) pages) (none-ahead pages h) }
+    record { each = whole-in pages; again = joined-in pages ∙ ap (λ (ahead : List ℕ). drop (length ahead) pages) (none-stray pages h) }
 
--- Unformatted pages make no message,
-passed : (us rest : List ℕ) → allUnformatted us ≡ true → messagesIn (us ++ rest) ≡ messagesIn rest
-unfolding allUnformatted messagesIn
-passed [] rest h = refl
-passed (page ∷ us) rest h =
-    rw (not-true (isMessagePage page) (and-left (not (isMessagePage page)) (allUnformatted us) h))
-    (passed us rest (and-right (not (isMessagePage page)) (allUnformatted us) h))
-
--- and before pages with none ahead they are just those ahead.
+-- Unformatted pages before pages with none ahead are just those ahead.
 led : (us rest : List ℕ) → allUnformatted us ≡ true → unformattedAhead rest ≡ [] → unformattedAhead (us ++ rest) ≡ us
 unfolding allUnformatted unformattedAhead
 led [] rest h none = none
@@ -112,7 +83,7 @@ found-again [] h = refl
 found-again (m ∷ later) h =
     rw (page-is-one m later h)
     (ap₂ {C = List Message} (λ (us : List ℕ) (messages : List Message). record { page = m .page; unformatted = us } ∷ messages)
-    (led (m .unformatted) (joined later) (others-are-none m later h) (none-ahead (joined later) (begins later (later-whole m later h))))
+    (led (m .unformatted) (joined later) (others-are-none m later h) (none-stray (joined later) (begins later (later-whole m later h))))
     (passed (m .unformatted) (joined later) (others-are-none m later h) ∙ found-again later (later-whole m later h)))
 
 only : (pages : List ℕ) (messages : List Message) → IsRun pages messages → messages ≡ messagesIn pages

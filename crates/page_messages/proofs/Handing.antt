@@ -1,5 +1,5 @@
 -- What each of the two readers leaves in the list, over the definitions alone.
-use mathlib.Core.Path.{_≡_, refl, sym, ap, _∙_, subst}
+use mathlib.Core.Path.{_≡_, refl, sym, ap, _∙_}
 use mathlib.Core.Bool.{true}
 use mathlib.Core.List.{List, [], _∷_}
 use Prim.Native.Nat.{ℕ, suc, _+_, _-_, _*_, _<_, _≤_}
@@ -52,7 +52,7 @@ module _ (l : List ℕ) (at : ℕ) (inside : at < length l) (message : isMessage
 
 -- The reader of the unformatted pages, which has found where the next message page stands, or the end.
 module _ (l : List ℕ) (first next : ℕ) (found : next ≡ first + 1 + length (unformattedAhead (drop (first + 1) l))) where
-  pub same-messages : messagesIn (drop next l) ≡ messagesIn (drop (first + 1) l)
+  same-messages : messagesIn (drop next l) ≡ messagesIn (drop (first + 1) l)
   same-messages =
       ap (λ (n : ℕ). messagesIn (drop n l)) found
       ∙ ap messagesIn (sym (drop-drop (length (unformattedAhead (drop (first + 1) l))) (first + 1) l))

@@ -1,28 +1,51 @@
 -- The pages from a place on: what one more page brings to the messages, to the unformatted pages ahead and to the test for wide ones.
 use mathlib.Core.Path.{_≡_, refl, sym, ap, _∙_}
-use mathlib.Core.Bool.{Bool, true, false, cond, _||_, or-false}
-use mathlib.Core.List.{List, [], _∷_}
-use Prim.Native.Nat.{ℕ, zero, suc, _+_, _^_, _<_, _≤_}
+use mathlib.Core.Bool.{Bool, true, false, cond, not, _||_, or-false}
+use mathlib.Core.List.{List, [], _∷_, _++_}
+use Prim.Native.Nat.{ℕ, _+_, _^_, _<_, _≤_}
 use native.Mathlib.Omega.{arith}
 use native.Mathlib.Nat.{zero-add, add-zero}
 use native.Mathlib.Numerals.{add-one}
 use lib.Dec.{leb}
 use lib.ListN.{length, drop, getD, drop-of-length-le}
 use lib.Seq.{drop-cons}
-use Rattle.page_messages.specs.Messages.{isMessagePage, Message, unformattedAhead, messagesIn}
+use borrow.Author.Tests.{not-true}
+use Rattle.page_word.proofs.ComputedTest.{and-left, and-right}
+use Rattle.page_messages.specs.Messages.{isMessagePage, Message, allUnformatted, unformattedAhead, messagesIn}
 use Rattle.page_messages.specs.Telling.{anyWide}
 
--- The unformatted pages ahead of the first message page make no message,
-pub skipped : (l : List ℕ) → messagesIn (drop (length (unformattedAhead l)) l) ≡ messagesIn l
-unfolding messagesIn unformattedAhead
-skipped [] = refl
-skipped (page ∷ later) = by (isMessagePage page) refl (skipped later)
+-- The pages ahead of the first message page are unformatted,
+pub ahead-unformatted : (l : List ℕ) → allUnformatted (unformattedAhead l) ≡ true
+unfolding allUnformatted unformattedAhead
+ahead-unformatted [] = refl
+ahead-unformatted (page ∷ later) = by (isMessagePage page) refl (ahead-unformatted later)
   where
-    by : (t : Bool) → isMessagePage page ≡ t → messagesIn (drop (length (unformattedAhead later)) later) ≡ messagesIn later
-        → messagesIn (drop (length (cond t [] (page ∷ unformattedAhead later))) (page ∷ later))
-        ≡ cond t (record { page = page; unformatted = unformattedAhead later } ∷ messagesIn later) (messagesIn later)
-    by true e h = rw e
-    by false e h = h
+    by : (t : Bool) → isMessagePage page ≡ t → allUnformatted (unformattedAhead later) ≡ true → allUnformatted (cond t [] (page ∷ unformattedAhead later)) ≡ true
+    by true e h = refl
+    by false e h = rw e h
+
+-- and with what follows them they are all pages.
+pub ahead-and-rest : (l : List ℕ) → unformattedAhead l ++ drop (length (unformattedAhead l)) l ≡ l
+unfolding unformattedAhead
+ahead-and-rest [] = refl
+ahead-and-rest (page ∷ later) = by (isMessagePage page) (ahead-and-rest later)
+  where
+    by : (t : Bool) → unformattedAhead later ++ drop (length (unformattedAhead later)) later ≡ later
+        → cond t [] (page ∷ unformattedAhead later) ++ drop (length (cond t [] (page ∷ unformattedAhead later))) (page ∷ later) ≡ page ∷ later
+    by true h = refl
+    by false h = ap (λ (rest : List ℕ). page ∷ rest) h
+
+-- Unformatted pages make no message;
+pub passed : (us rest : List ℕ) → allUnformatted us ≡ true → messagesIn (us ++ rest) ≡ messagesIn rest
+unfolding allUnformatted messagesIn
+passed [] rest h = refl
+passed (page ∷ us) rest h =
+    rw (not-true (isMessagePage page) (and-left (not (isMessagePage page)) (allUnformatted us) h))
+    (passed us rest (and-right (not (isMessagePage page)) (allUnformatted us) h))
+
+-- so those ahead of the first message page make none,
+pub skipped : (l : List ℕ) → messagesIn (drop (length (unformattedAhead l)) l) ≡ messagesIn l
+skipped l = sym (passed (unformattedAhead l) (drop (length (unformattedAhead l)) l) (ahead-unformatted l)) ∙ ap messagesIn (ahead-and-rest l)
 
 -- and what stands behind them, if anything does, is a message page.
 pub ends : (l : List ℕ) → length (unformattedAhead l) < length l → isMessagePage (getD l (length (unformattedAhead l)) 0) ≡ true
@@ -47,7 +70,7 @@ module _ (l : List ℕ) (at : ℕ) where
   unfolding messagesIn
   no-message-left h = rw (drop-of-length-le l h)
 
-  pub none-wide-left : length l ≤ at → anyWide (drop at l) ≡ false
+  none-wide-left : length l ≤ at → anyWide (drop at l) ≡ false
   unfolding anyWide
   none-wide-left h = rw (drop-of-length-le l h)
 
@@ -82,7 +105,7 @@ module _ (l : List ℕ) (at : ℕ) where
         by false = omega arith
 
     -- and is wide or not.
-    pub wide-or-later : (w : Bool) → ((w || leb (2 ^ 48) (getD l at 0)) || anyWide (drop (at + 1) l)) ≡ (w || anyWide (drop at l))
+    wide-or-later : (w : Bool) → ((w || leb (2 ^ 48) (getD l at 0)) || anyWide (drop (at + 1) l)) ≡ (w || anyWide (drop at l))
     unfolding anyWide
     wide-or-later true = refl
     wide-or-later false = rw here

@@ -1,8 +1,9 @@
 // Reading a run: what is refused, and room for the messages.
 ghost use mathlib.Core.Path.{_≡_};
-ghost use mathlib.Core.Bool.{true, cond, _||_};
+ghost use mathlib.Core.Bool.{true, _||_};
 ghost use Prim.Native.Nat.{_≤_, _<_};
 ghost use lib.ListN.{length, getD};
+ghost use Rattle.answers.specs.Choices.{if_then_else_};
 ghost use Rattle.answers.specs.Answers.{said};
 ghost use Rattle.page_messages.specs.Messages.{isMessagePage, messagesIn};
 ghost use Rattle.page_messages.specs.Telling.{anyWide, tellingOf, messagesOf};
@@ -22,7 +23,7 @@ struct Survey {
 
 // One if a test holds, else none. A function of its own, so that the loop over all pages has no branch.
 fn one_if(test: bool) -> usize
-    ensures { λ r. ⌜ r ≡ cond test 1 0 ⌝ }
+    ensures { λ r. ⌜ r ≡ (if test then 1 else 0) ⌝ }
 {
     if test {
         return 1;

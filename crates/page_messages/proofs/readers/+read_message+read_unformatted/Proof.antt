@@ -1,7 +1,6 @@
 -- Twice the number of unread pages, and one more for the reader of the unformatted pages, falls at each call.
 use Prim.Native.Nat.{ℕ, _<_, _+_, _-_, _*_}
 use native.Mathlib.Omega.{arith}
-use mathlib.Core.Path.{_≡_, sym, ap, _∙_}
 use borrow.Author.Needs.{needs}
 use lib.ListN.{length, drop}
 use lib.Seq.{lt-length-set}

@@ -1,7 +1,5 @@
 -- Each return is a law of what the call says and leaves.
 use mathlib.Core.Path.{sym, ap, _∙_}
-use mathlib.Core.Bool.{Bool}
-use Prim.Native.Nat.{ℕ}
 use native.Mathlib.Omega.{arith}
 use borrow.Author.Needs.{needs}
 use Rattle.answers.specs.Answers.{Leaves}
