@@ -1,4 +1,4 @@
-/* What the two programs of the bench have in common. */
+/* What the programs of the bench have in common. */
 #ifndef BENCH_COMMON_H
 #define BENCH_COMMON_H
 

@@ -11,7 +11,7 @@ import sys
 
 TOOLS = pathlib.Path(__file__).resolve().parent
 CHECK, JUDGE, WRITE, READ, RESOLVE, RUN, EDGES, MESSAGES = range(1, 9)
-# The kinds of answers that are no refusals: a refusal's kind is its number in 01's table, and nothing is 0.
+# The kinds of answers that are no refusals: a refusal's kind is its number in 01's table, or the one that a request gave it, and nothing is 0.
 PAGE, ORDER, SETTLED, VALUE, NUMBER, QUIET, UNFIT = range(0x80, 0x87)
 HSM, LSM = 0, 1
 # No page has more readings.

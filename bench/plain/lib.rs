@@ -5,7 +5,7 @@
 mod device;
 mod messages;
 
-/// The refusals, by the scope's numbers.
+/// The refusals, by the numbers of the scope and of its requests.
 #[derive(Clone, Copy)]
 enum Refusal {
     Gap = 1,
