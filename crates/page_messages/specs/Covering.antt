@@ -8,7 +8,7 @@ use Rattle.answers.specs.Choices.{if_then_else_, _≤?_, _<?_}
 use Rattle.page_messages.specs.Messages.{Message, pagesOf, IsRun, messagesIn}
 use Rattle.page_messages.specs.Telling.{Told, toldFrom, messageCells, unformattedFirst}
 
--- The pages that are named by what is told of a message: from its place on, a message page and so many unformatted ones.
+-- The pages that are named by what is told of a message: from its place on, a message page and as many unformatted ones as are told.
 abbrev pub pagesNamed : (pages : List ℕ) (told : Told) → List ℕ
 pagesNamed pages told = take (1 + told .count) (drop (told .place) pages)
 
@@ -16,7 +16,7 @@ pagesNamed pages told = take (1 + told .count) (drop (told .place) pages)
 abbrev pub holds : (at : ℕ) (told : Told) → Bool
 holds at told = told .place ≤? at && at <? told .place + (1 + told .count)
 
--- and of how many messages it is one.
+-- and of how many messages' pages it is one.
 unfoldable pub timesHeld : (at : ℕ) (told : List Told) → ℕ
 timesHeld at [] = 0
 timesHeld at (t ∷ later) = let others = timesHeld at later in if holds at t then 1 + others else others

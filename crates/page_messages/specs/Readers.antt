@@ -1,5 +1,5 @@
 -- 02, request 8: "The reader of a message hands over to the reader of its unformatted pages, which hands back at the next message." What the
--- first of them leaves to the second to tell. Only the contracts of these two cite it, and no public one.
+-- first of them leaves to the second to tell. Only the contract of the second cites it, and no public one.
 use Prim.Native.Nat.{ℕ, _+_}
 use mathlib.Core.List.{List, _∷_}
 use lib.ListN.{length, drop}
