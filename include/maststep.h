@@ -1,8 +1,8 @@
 /*
- * Maststep: the pages of a line negotiation, for C (from C99 on) and C++ on x86-64 Linux.
+ * Maststep: the pages of a line negotiation and the parity of frames, for C (from C99 on) and C++ on x86-64 Linux.
  *
  * Link with libmaststep.a. It needs nothing at all beside it, not even the C library: it calls nothing outside
- * of itself, and has no data of its own that it writes. It has less than 12 KiB of code and constants.
+ * of itself, and has no data of its own that it writes. It has less than 18 KiB of code and constants.
  *
  * Every call answers with one 64-bit number: the top byte is the kind of the answer and the other 56
  * bits are its value. maststep_kind and maststep_value take an answer apart.
@@ -21,21 +21,23 @@ extern "C" {
 #endif
 
 /* The version of this header: one more with each change that a program can see, in a name, a call or an answer. */
-#define MASTSTEP_VERSION 3
+#define MASTSTEP_VERSION 4
 
 /*
- * No call but maststep_messages was seen to use more bytes of stack than MASTSTEP_MOST_STACK, its return address among
- * them, and maststep_messages no more than MASTSTEP_MOST_STACK_OF_MESSAGES: its two readers call one another for each
- * message, so that it takes the most where all of the 64 pages that a run may have are message pages. That is measured
+ * No call but two was seen to use more bytes of stack than MASTSTEP_MOST_STACK, its return address among them.
+ * maststep_messages uses no more than MASTSTEP_MOST_STACK_OF_MESSAGES: its two readers call one another for each
+ * message, so that it takes the most where all of the 64 pages that a run may have are message pages. And
+ * maststep_parity_take uses no more than MASTSTEP_MOST_STACK_OF_PARITY_TAKE, for a table of its own. That is measured
  * and not proved: tests/c makes every call of its test on a stack that it has painted, and looks which bytes still are.
  * As functions on x86-64 Linux may, the calls use bytes below the stack pointer too (the red zone); these are counted.
  */
 enum {
     MASTSTEP_MOST_STACK = 512,
-    MASTSTEP_MOST_STACK_OF_MESSAGES = 4096
+    MASTSTEP_MOST_STACK_OF_MESSAGES = 4096,
+    MASTSTEP_MOST_STACK_OF_PARITY_TAKE = 4096
 };
 
-/* The kinds of answer. 1 to 14, 17, 24 and 25 are refusals; a refusal's value is 0. */
+/* The kinds of answer. 1 to 14, 17, 20, 21, 24 and 25 are refusals; a refusal's value is 0. */
 enum {
     MASTSTEP_NOTHING = 0,     /* no answer; the value is 0 */
     MASTSTEP_GAP = 1,         /* an attempt ended: a gap was not what the pattern of a page asks there */
@@ -53,6 +55,8 @@ enum {
     MASTSTEP_WIDE = 13,       /* refused: the word, or a page of a run, is 2^48 or more */
     MASTSTEP_MODE = 14,       /* refused: the mode is neither 0 nor 1 */
     MASTSTEP_TOGGLE = 17,     /* refused: the partner's new Next Page has the toggle of its page before */
+    MASTSTEP_SYMBOL = 20,     /* refused: a number of a burst or of a frame's state is no symbol, since it is 512 or more */
+    MASTSTEP_COUNT = 21,      /* refused: a burst has more symbols than a frame has left to take, or a finish is at another count than 406 */
     MASTSTEP_RUN = 24,        /* refused: the first page of a run is an unformatted one */
     MASTSTEP_LENGTH = 25,     /* refused: a run has more than 64 pages */
     MASTSTEP_PAGE = 0x80,     /* a good page was read; the value is its word */
@@ -174,6 +178,17 @@ enum { MASTSTEP_MOST_READINGS = 150 };
 enum {
     MASTSTEP_MOST_PAGES = 64,   /* a run has no more pages, and so no more messages */
     MASTSTEP_MESSAGE_CELLS = 3  /* of a message: its code, its first place, the number of its unformatted pages */
+};
+
+/*
+ * The parity of a 1000BASE-T1 frame, for maststep_parity_take and maststep_parity_finish. The state that the caller lends
+ * has the 44 symbols of the register first, that of the highest power first, and then the number of data symbols taken.
+ * All zero is a new frame.
+ */
+enum {
+    MASTSTEP_DATA_SYMBOLS = 406,      /* of a frame */
+    MASTSTEP_PARITY_SYMBOLS = 44,     /* of a frame, sent behind the data */
+    MASTSTEP_STATE_ENTRIES = 45       /* of a state: the register and the count */
 };
 
 /* The kind of an answer: its top byte. */
@@ -365,6 +380,61 @@ uint64_t maststep_run(const uint64_t *events, size_t cells, uint64_t *answers, s
  * call. With length or room 0 nothing is read or written through that pointer, and it may be a null pointer.
  */
 uint64_t maststep_messages(const uint64_t *pages, size_t length, uint64_t *messages, size_t room);
+
+/*
+ * Takes a burst of a frame's data symbols, in the order in which they are sent, into the state. Answers MASTSTEP_NUMBER
+ * with the number of data symbols taken so far, and leaves the register and this number in the state's first 45 entries;
+ * entries behind these are left as they were. However the data are cut into bursts, empty ones among them, the state
+ * after them is the same.
+ *
+ * A symbol is a number below 512, the first of its nine bits that is sent the lowest. The data are a polynomial over the
+ * field made by x^9 + x^4 + 1, with alpha = 2, the first symbol the coefficient of the highest power; the register is
+ * what is left of it, times Z^44, by the generator, which is the product of Z less alpha^i for i = 0 to 43.
+ *
+ * Refused, in this order, and the whole state is then left as it was:
+ *   MASTSTEP_ROOM (12)    the state has fewer than 45 entries;
+ *   MASTSTEP_COUNT (21)   the state's count and the burst are more than 406 symbols together;
+ *   MASTSTEP_SYMBOL (20)  a number of the burst, or one of the register's 44, is 512 or more.
+ *
+ * A burst that reaches past the 406 data symbols is refused as a whole: cut it there. A state of any content may be
+ * lent, also one that no call has left; if it is not refused, the call goes on from its register and count as they stand.
+ *
+ * It takes more stack than most calls: see MASTSTEP_MOST_STACK_OF_PARITY_TAKE.
+ *
+ * The caller sees to it that state points to entries entries in a row and burst to length symbols in a row, aligned as
+ * uint16_t is, none of them in both, and that nothing else writes the burst, or reads or writes the state, during the
+ * call. With entries or length 0 nothing is read or written through that pointer, and it may be a null pointer.
+ */
+uint64_t maststep_parity_take(uint16_t *state, size_t entries, const uint16_t *burst, size_t length);
+
+/*
+ * Gives the parity symbols of a frame whose 406 data symbols have been taken: the first 44 entries of parity, in the
+ * order in which they are sent. Its other entries are left as they were, and so is the state. Answers MASTSTEP_NUMBER
+ * with 44.
+ *
+ * Refused, in this order, and the whole of parity is then left as it was:
+ *   MASTSTEP_ROOM (12)    the state has fewer than 45 entries, or parity fewer than 44;
+ *   MASTSTEP_COUNT (21)   the state's count is not 406;
+ *   MASTSTEP_SYMBOL (20)  a number of the register is 512 or more.
+ *
+ * A frame, from its data in bursts as they come:
+ *
+ *     uint16_t state[MASTSTEP_STATE_ENTRIES] = {0};
+ *     uint16_t parity[MASTSTEP_PARITY_SYMBOLS];
+ *     while (... a burst of length symbols has come ...) {
+ *         uint64_t answer = maststep_parity_take(state, MASTSTEP_STATE_ENTRIES, burst, length);
+ *         if (maststep_kind(answer) != MASTSTEP_NUMBER) ... it was refused
+ *     }
+ *     uint64_t answer = maststep_parity_finish(state, MASTSTEP_STATE_ENTRIES, parity, MASTSTEP_PARITY_SYMBOLS);
+ *     if (maststep_kind(answer) == MASTSTEP_NUMBER) ... parity has the 44 symbols
+ *
+ * For the next frame the state is set to zero again.
+ *
+ * The caller sees to it that state points to entries entries in a row and parity to room entries in a row, aligned as
+ * uint16_t is, none of them in both, and that nothing else writes the state, or reads or writes parity, during the call.
+ * With entries or room 0 nothing is read or written through that pointer, and it may be a null pointer.
+ */
+uint64_t maststep_parity_finish(const uint16_t *state, size_t entries, uint16_t *parity, size_t room);
 
 #ifdef __cplusplus
 }

@@ -5,7 +5,8 @@ A file crates/NAME/must-fail/FILE.edit has one or more wrong answers. Each begin
     wrong: NAME
     refused at: PLACE DECLARATION
 
-and has one or more replacements, as the kit's guide has them (`file:`, `old:`, `new:`); all other lines say why it is wrong. The
+and has one or more replacements, as the kit's guide has them (`file:`, `old:`, `new:`, of one line each); the lines before these say why it
+is wrong. A second line of `old:` or `new:` would be passed over, and the edit change something else than it says, or nothing. The
 check of a crate costs the same with one wrong answer as with ten, and a function's proof speaks of the functions it calls only by their
 contracts. So a file has as many wrong answers as are refused each at a declaration of its own. PLACE is a file of proofs/ without
 its ending, and for a function's proof the folder alone; a proof that the compiler makes itself counts as if it stood there."""
@@ -26,11 +27,12 @@ MADE_BY_SEARCH = re.compile(r'^fn \S+: no proof: expected `[^`]+` in proofs/(\S+
 
 
 class Wrong:
-    """One wrong answer: the crate, the file's name, its own name and line there, where it is refused, why, and its replacements as lines."""
+    """One wrong answer: the crate, the file's name, its own name and line there, where it is refused, why, its replacements as lines, and
+    the lines among these that are none."""
 
     def __init__(self, crate, file, name, line):
         self.crate, self.file, self.name, self.line = crate, file, name, line
-        self.place, self.why, self.lines = '', [], []
+        self.place, self.why, self.lines, self.astray = '', [], [], []
 
     def title(self):
         return f'{self.crate}/{self.name}'
@@ -53,7 +55,7 @@ def of_text(crate, file, text):
         elif line.startswith(REPLACEMENT):
             found[-1].lines.append(line)
         elif line.strip():
-            found[-1].why.append(line)
+            (found[-1].astray if found[-1].lines else found[-1].why).append(line)
     return found
 
 
@@ -75,6 +77,10 @@ def faults_of(wrongs):
             yield f'{wrong.title()}: "{REFUSED_AT.strip()}" has to name a place and a declaration'
         if not wrong.why or not any(line.startswith('new:') for line in wrong.lines):
             yield f'{wrong.title()}: it has no reason, or nothing is replaced'
+        if any(old.removeprefix('old: ') == new.removeprefix('new: ') for old, new in zip(wrong.lines, wrong.lines[1:]) if old.startswith('old: ')):
+            yield f'{wrong.title()}: a replacement changes nothing'
+        if wrong.astray:
+            yield f'{wrong.title()}: a replacement has more than one line: {wrong.astray[0].strip()}'
 
 
 def refusals(log):

@@ -35,6 +35,8 @@ void begin(void)
     const uint64_t events[3] = {MASTSTEP_EVENT_READ, 0, MASTSTEP_STATUS}, page = MASTSTEP_NULL_MESSAGE;
     uint32_t list[MASTSTEP_MOST_READINGS];
     uint64_t answer, message[MASTSTEP_MESSAGE_CELLS];
+    uint16_t state[MASTSTEP_STATE_ENTRIES] = {0}, parity[MASTSTEP_PARITY_SYMBOLS];
+    const uint16_t symbol = 1;
     size_t next;
 
     same(1, maststep_check(UINT64_C(1) << 47), packed(0x84, 0x8005));
@@ -46,5 +48,9 @@ void begin(void)
     same(7, answer, packed(0x83, 8));
     same(8, maststep_messages(&page, 1, message, MASTSTEP_MESSAGE_CELLS), packed(0x84, 1));
     same(9, message[0], 1);
+    same(10, maststep_parity_take(state, MASTSTEP_STATE_ENTRIES, &symbol, 1), packed(0x84, 1));
+    state[MASTSTEP_PARITY_SYMBOLS] = MASTSTEP_DATA_SYMBOLS;
+    same(11, maststep_parity_finish(state, MASTSTEP_STATE_ENTRIES, parity, MASTSTEP_PARITY_SYMBOLS), packed(0x84, 44));
+    same(12, parity[0], 208);
     leave(0);
 }

@@ -2,8 +2,8 @@
  * The C library as a C program sees it: through include/maststep.h, linked with libmaststep.a.
  *
  * What is expected here is written out from the scope's own tables (positions, windows, times, and P1-P14,
- * which test_table_of_01 runs in their order), from its amendments and from the request of message runs, with no code
- * in common with the library. A check that holds prints nothing. The last line is 'N passed, M failed', and the exit
+ * which test_table_of_01 runs in their order), from its amendments and from the requests of message runs and of the
+ * parity of frames, with no code in common with the library. A check that holds prints nothing. The last line is 'N passed, M failed', and the exit
  * status is 1 where M is not 0.
  *
  * Compiled with ON_PAINTED_STACK, it makes every call on a painted stack, and looks how deep that was too.
@@ -65,6 +65,8 @@ static void test_header(void)
     same("Wide is 13", MASTSTEP_WIDE, 13);
     same("Mode is 14", MASTSTEP_MODE, 14);
     same("Toggle is 17", MASTSTEP_TOGGLE, 17);
+    same("Symbol is 20", MASTSTEP_SYMBOL, 20);
+    same("Count is 21", MASTSTEP_COUNT, 21);
     same("Run is 24", MASTSTEP_RUN, 24);
     same("Length is 25", MASTSTEP_LENGTH, 25);
     same("a page is 80", MASTSTEP_PAGE, 0x80);
@@ -78,7 +80,7 @@ static void test_header(void)
     same("LSM is mode 1", MASTSTEP_LSM, 1);
     same("a run has at most 64 pages", MASTSTEP_MOST_PAGES, 64);
     same("a message has three cells", MASTSTEP_MESSAGE_CELLS, 3);
-    same("the version is 3", MASTSTEP_VERSION, 3);
+    same("the version is 4", MASTSTEP_VERSION, 4);
 }
 
 static void test_names_of_events_and_registers(void)
@@ -1611,6 +1613,228 @@ static void test_messages_unformatted_first(void)
     refuses_run("an unformatted page, then 63 messages", 24);
 }
 
+/* ---- the parity of a frame */
+
+enum { DATA = 406, PARITY = 44, COUNT_AT = 44, BEHIND = 3, STATE = 45 + BEHIND, FRAME = DATA + PARITY };
+
+/* A state and a list for parity symbols with entries behind them that no call may alter, and a frame. */
+static uint16_t state[STATE], before_call[STATE], parity[PARITY + BEHIND], frame[FRAME];
+
+/* Parity symbols of data that are all 1FF hex, and of the data 0, 1, .. 405, from outside of this project's code: libfec has the same. */
+static const uint16_t OF_ONES[PARITY] = {
+    0x0E0, 0x07D, 0x05B, 0x13F, 0x1F2, 0x069, 0x176, 0x1A7, 0x10A, 0x1EA, 0x1D8, 0x02A, 0x1FF, 0x029, 0x1AA,
+    0x0C8, 0x028, 0x068, 0x0C5, 0x02E, 0x1DB, 0x0C5, 0x12F, 0x049, 0x0D1, 0x030, 0x135, 0x176, 0x0EB, 0x1D2,
+    0x1EC, 0x190, 0x111, 0x0CC, 0x120, 0x023, 0x15E, 0x018, 0x13B, 0x1EB, 0x06F, 0x1BC, 0x173, 0x1C9};
+static const uint16_t OF_COUNTING[PARITY] = {
+    0x15A, 0x158, 0x1C8, 0x0D0, 0x196, 0x16C, 0x0BF, 0x053, 0x128, 0x0D6, 0x17E, 0x03F, 0x17A, 0x122, 0x1E8,
+    0x085, 0x0F2, 0x091, 0x1E4, 0x102, 0x197, 0x041, 0x0EA, 0x027, 0x196, 0x173, 0x112, 0x094, 0x017, 0x0DB,
+    0x190, 0x090, 0x167, 0x196, 0x1CC, 0x1CD, 0x151, 0x179, 0x145, 0x091, 0x0A7, 0x10D, 0x1A5, 0x0B5};
+/* The generator below its highest power: the parity of data that are all zero but for a last 1. */
+static const uint16_t GENERATOR[PARITY] = {
+    0x0D0, 0x128, 0x044, 0x1C6, 0x152, 0x1B9, 0x07B, 0x1E6, 0x148, 0x157, 0x0E2, 0x02A, 0x0C4, 0x1F0, 0x022,
+    0x1C3, 0x1E0, 0x16A, 0x10C, 0x108, 0x080, 0x137, 0x09F, 0x1E3, 0x18A, 0x0EF, 0x0B2, 0x03F, 0x1E4, 0x01A,
+    0x187, 0x0C2, 0x138, 0x1A5, 0x069, 0x180, 0x094, 0x164, 0x15E, 0x15B, 0x0ED, 0x14F, 0x059, 0x163};
+
+static uint16_t guard_of_entry(size_t i)
+{
+    return (uint16_t)(0xC300 + i);
+}
+
+/* A new frame, with guards behind its state. */
+static void new_frame(void)
+{
+    size_t i;
+
+    memset(state, 0, sizeof state);
+    for (i = 45; i < STATE; i++) state[i] = guard_of_entry(i);
+}
+
+/* One burst is taken: its answer, and that entries behind the state are as they were. */
+static void takes(const char *what, const uint16_t *burst, size_t length, uint64_t count)
+{
+    size_t i;
+
+    same(what, maststep_parity_take(state, STATE, burst, length), packed(0x84, count));
+    for (i = 45; i < STATE; i++) same("an entry behind the state", state[i], guard_of_entry(i));
+    same("the count in the state", state[COUNT_AT], count);
+}
+
+/* The frame's data are taken in bursts of so many symbols, and finished: the parity behind the data. */
+static void finishes(const char *what, size_t cut)
+{
+    size_t from, i;
+
+    new_frame();
+    for (from = 0; from < DATA; from += cut) {
+        const size_t length = DATA - from < cut ? DATA - from : cut;
+        takes(what, frame + from, length, from + length);
+    }
+    for (i = 0; i < PARITY + BEHIND; i++) parity[i] = guard_of_entry(i);
+    same(what, maststep_parity_finish(state, STATE, parity, PARITY + BEHIND), packed(0x84, PARITY));
+    for (i = PARITY; i < PARITY + BEHIND; i++) same("an entry behind the parity", parity[i], guard_of_entry(i));
+    memcpy(frame + DATA, parity, PARITY * sizeof parity[0]);
+}
+
+static void same_parity(const char *what, const uint16_t *expected)
+{
+    char name[96];
+    size_t i;
+
+    for (i = 0; i < PARITY; i++) {
+        snprintf(name, sizeof name, "%s: parity symbol %u", what, (unsigned)i);
+        same(name, frame[DATA + i], expected[i]);
+    }
+}
+
+static void test_parity_vectors(void)
+{
+    static const uint16_t none[PARITY] = {0};
+    size_t i;
+
+    for (i = 0; i < DATA; i++) frame[i] = 0x1ff;
+    finishes("all ones", DATA);
+    same_parity("all ones", OF_ONES);
+    for (i = 0; i < DATA; i++) frame[i] = (uint16_t)i;
+    finishes("0 to 405", DATA);
+    same_parity("0 to 405", OF_COUNTING);
+    memset(frame, 0, sizeof frame);
+    finishes("zeros", DATA);
+    same_parity("zeros", none);
+    frame[DATA - 1] = 1;
+    finishes("a last 1", DATA);
+    same_parity("a last 1", GENERATOR);
+}
+
+/* Twice a symbol, as a polynomial modulo x^9 + x^4 + 1. */
+static unsigned doubled(unsigned symbol)
+{
+    return symbol & 0x100 ? (symbol << 1) ^ 0x211 : symbol << 1;
+}
+
+/* The frame's value at alpha^power: symbol by symbol, the value so far is doubled so often. */
+static unsigned value_at(unsigned power)
+{
+    unsigned value = 0, times;
+    size_t i;
+
+    for (i = 0; i < FRAME; i++) {
+        for (times = 0; times < power; times++) value = doubled(value);
+        value ^= frame[i];
+    }
+    return value;
+}
+
+/* Data drawn from a seed. */
+static void draws_data(uint32_t seed)
+{
+    size_t i;
+
+    for (i = 0; i < DATA; i++) {
+        seed = seed * UINT32_C(1664525) + UINT32_C(1013904223);
+        frame[i] = (uint16_t)(seed >> 23);
+    }
+}
+
+static void test_parity_of_frames(void)
+{
+    static const size_t cuts[] = {1, 2, 9, 100, 405, 406};
+    static uint16_t whole[PARITY];
+    uint32_t seed;
+    unsigned power;
+    size_t i;
+
+    for (seed = 1; seed <= 4; seed++) {
+        draws_data(seed);
+        finishes("drawn data", DATA);
+        for (power = 0; power < 44; power++) same("the value at a power", value_at(power), 0);
+        memcpy(whole, frame + DATA, sizeof whole);
+        for (i = 0; i < sizeof cuts / sizeof cuts[0]; i++) {
+            finishes("drawn data, cut", cuts[i]);
+            same_parity("drawn data, cut", whole);
+        }
+        frame[seed * 100] ^= 1;
+        for (power = 0; power < 44; power++) same("the value at a power, one bit changed", value_at(power) == 0, 0);
+    }
+}
+
+/* A burst is refused with this number, and no entry is altered. */
+static void refuses_burst(const char *what, uint64_t number, size_t entries, const uint16_t *burst, size_t length)
+{
+    memcpy(before_call, state, sizeof state);
+    same(what, maststep_parity_take(state, entries, burst, length), packed(number, 0));
+    same(what, memcmp(before_call, state, sizeof state) != 0, 0);
+}
+
+static void test_parity_take_refusals(void)
+{
+    static uint16_t burst[DATA + 1];
+    size_t i;
+
+    new_frame();
+    for (i = 0; i < 45; i++) refuses_burst("a short state", 12, i, burst, DATA + 1);
+    refuses_burst("407 symbols", 21, STATE, burst, DATA + 1);
+    same("no state", maststep_parity_take(NULL, 0, burst, 1), packed(12, 0));
+    same("no burst", maststep_parity_take(state, 45, NULL, 0), packed(0x84, 0));
+    for (i = 0; i < DATA; i++) {
+        burst[i] = (uint16_t)(512 + i);
+        refuses_burst("no symbol in the burst", 20, STATE, burst, DATA);
+        refuses_burst("no symbol in the burst, and one too many", 21, STATE, burst, DATA + 1);
+        burst[i] = 511;
+    }
+    for (i = 0; i < PARITY; i++) {
+        state[i] = i % 2 ? 512 : 65535;
+        refuses_burst("no symbol in the register", 20, STATE, burst, 1);
+        state[i] = 0;
+    }
+    state[COUNT_AT] = 406;
+    takes("no symbol more after 406", burst, 0, 406);
+    refuses_burst("a symbol after 406", 21, STATE, burst, 1);
+    state[0] = 512;
+    refuses_burst("a symbol after 406, no symbol in the register", 21, STATE, burst, 1);
+    state[COUNT_AT] = 407;
+    refuses_burst("a count of 407", 21, STATE, burst, 0);
+    state[COUNT_AT] = 65535;
+    refuses_burst("a count of 65535", 21, STATE, burst, 1);
+}
+
+/* A finish is refused with this number, and no entry of either list is altered. */
+static void refuses_finish(const char *what, uint64_t number, size_t entries, size_t room)
+{
+    size_t i, n = 0;
+
+    for (i = 0; i < PARITY + BEHIND; i++) parity[i] = guard_of_entry(i);
+    memcpy(before_call, state, sizeof state);
+    same(what, maststep_parity_finish(state, entries, parity, room), packed(number, 0));
+    for (i = 0; i < PARITY + BEHIND; i++) n += parity[i] != guard_of_entry(i);
+    same(what, n, 0);
+    same(what, memcmp(before_call, state, sizeof state) != 0, 0);
+}
+
+static void test_parity_finish_refusals(void)
+{
+    size_t i;
+
+    new_frame();
+    state[COUNT_AT] = 406;
+    for (i = 0; i < 45; i++) refuses_finish("a short state", 12, i, PARITY);
+    for (i = 0; i < PARITY; i++) refuses_finish("too little room", 12, 45, i);
+    same("no lists", maststep_parity_finish(NULL, 0, NULL, 0), packed(12, 0));
+    for (i = 0; i < PARITY; i++) {
+        state[i] = 512;
+        refuses_finish("no symbol in the register", 20, 45, PARITY);
+        state[i] = 511;
+    }
+    same("just enough room", maststep_parity_finish(state, 45, parity, PARITY), packed(0x84, PARITY));
+    same("finished twice", maststep_parity_finish(state, 45, parity, PARITY), packed(0x84, PARITY));
+    same("the register of a state that no call has made", parity[43], 511);
+    for (i = 0; i < 1000; i++) {
+        state[COUNT_AT] = (uint16_t)i;
+        if (i != 406) refuses_finish("another count", 21, 45, PARITY);
+    }
+    state[0] = 512;
+    refuses_finish("another count, no symbol in the register", 21, 45, PARITY);
+}
+
 /* ---- P1-P14 */
 
 /* A page written into the list from its first entry on: the time from the first reading to the last. */
@@ -1671,12 +1895,14 @@ static void test_table_of_01(void)
 static void test_stack(void)
 {
 #ifdef ON_PAINTED_STACK
-    printf("the deepest call used %u bytes of stack, the deepest of maststep_messages %u\n", (unsigned)deepest,
-           (unsigned)deepest_of_messages);
+    printf("the deepest call used %u bytes of stack, the deepest of maststep_messages %u, of maststep_parity_take %u\n",
+           (unsigned)deepest, (unsigned)deepest_of_messages, (unsigned)deepest_of_take);
     same("a call deeper than MASTSTEP_MOST_STACK", deepest > MASTSTEP_MOST_STACK, 0);
     same("a call without a return address on the stack", deepest < 8, 0);
     same("a call deeper than MASTSTEP_MOST_STACK_OF_MESSAGES", deepest_of_messages > MASTSTEP_MOST_STACK_OF_MESSAGES, 0);
     same("no return address of maststep_messages on the stack", deepest_of_messages < 8, 0);
+    same("a call deeper than MASTSTEP_MOST_STACK_OF_PARITY_TAKE", deepest_of_take > MASTSTEP_MOST_STACK_OF_PARITY_TAKE, 0);
+    same("no return address of maststep_parity_take on the stack", deepest_of_take < 8, 0);
 #endif
 }
 
@@ -1725,6 +1951,10 @@ int main(void)
     test_messages_length();
     test_messages_wide();
     test_messages_unformatted_first();
+    test_parity_vectors();
+    test_parity_of_frames();
+    test_parity_take_refusals();
+    test_parity_finish_refusals();
     test_table_of_01();
     test_stack();
     printf("%u passed, %u failed\n", passed, failed);

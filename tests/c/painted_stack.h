@@ -41,8 +41,16 @@ __asm__(".text\n"
 enum { STACK_BYTES = 4 * MASTSTEP_MOST_STACK_OF_MESSAGES };
 static _Alignas(16) unsigned char painted_stack[STACK_BYTES];
 
-/* The most bytes that a call of the library has used so far: maststep_messages, and any other. */
-static size_t deepest_of_messages, deepest;
+/* The most bytes that a call of the library has used so far: maststep_messages, maststep_parity_take, and any other. */
+static size_t deepest_of_messages, deepest_of_take, deepest;
+
+/* Which of these a call counts for. */
+static size_t *deepest_of(function_of_any_kind function)
+{
+    if (function == (function_of_any_kind)maststep_messages) return &deepest_of_messages;
+    if (function == (function_of_any_kind)maststep_parity_take) return &deepest_of_take;
+    return &deepest;
+}
 
 /* Not the same for all bytes, so that a call does not write them by chance. */
 static unsigned char paint(size_t place)
@@ -53,7 +61,7 @@ static unsigned char paint(size_t place)
 static uint64_t on_painted_stack(function_of_any_kind function, uint64_t a, uint64_t b, uint64_t c, uint64_t d, uint64_t e, uint64_t f)
 {
     const struct painted_call call = {function, painted_stack + STACK_BYTES, {a, b, c, d, e, f}};
-    size_t *most = function == (function_of_any_kind)maststep_messages ? &deepest_of_messages : &deepest;
+    size_t *most = deepest_of(function);
     size_t place;
     uint64_t answer;
 
@@ -78,5 +86,9 @@ static uint64_t on_painted_stack(function_of_any_kind function, uint64_t a, uint
     ON_STACK(maststep_run, ADDRESS(events), cells, ADDRESS(answers), room, 0, 0)
 #define maststep_messages(pages, length, messages, room) \
     ON_STACK(maststep_messages, ADDRESS(pages), length, ADDRESS(messages), room, 0, 0)
+#define maststep_parity_take(state, entries, burst, length) \
+    ON_STACK(maststep_parity_take, ADDRESS(state), entries, ADDRESS(burst), length, 0, 0)
+#define maststep_parity_finish(state, entries, parity, room) \
+    ON_STACK(maststep_parity_finish, ADDRESS(state), entries, ADDRESS(parity), room, 0, 0)
 
 #endif

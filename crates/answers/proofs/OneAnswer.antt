@@ -3,7 +3,7 @@
 -- The number of an ability is a byte in the code; here that is the premise `abilityIsByte`.
 use mathlib.Core.Path.{_≡_, refl, sym, ap, _∙_}
 use mathlib.Core.Bool.{Bool, true, false, cond}
-use Prim.Native.Nat.{ℕ, _+_, _-_, _/_, _^_, _<_, _≤_}
+use Prim.Native.Nat.{ℕ, _+_, _-_, _/_, _^_, _<_}
 use native.Mathlib.Nat.{mod-lt}
 use native.Mathlib.Omega.{arith}
 use lib.Arith.{digits-div}
@@ -11,7 +11,7 @@ use lib.Dec.{eqb, leb, ltb}
 use lib.Pow.{pow-pos}
 use borrow.Author.Tests.{le-leb, lt-leb, ltb-true}
 use Rattle.answers.specs.declared.Refusal.{Refusal}
-use Rattle.answers.specs.declared.Refusal.the-variants.{Gap, Cut, Check, Selector, Tie, Changed, Echo, None, Roles, Register, Turn, Room, Wide, Mode, Odd, Toggle, Run, Length}
+use Rattle.answers.specs.declared.Refusal.the-variants.{Gap, Cut, Check, Selector, Tie, Changed, Echo, None, Roles, Register, Turn, Room, Wide, Mode, Odd, Toggle, Symbol, Count, Run, Length}
 use Rattle.answers.specs.declared.Answer.{Answer}
 use Rattle.answers.specs.declared.Answer.the-variants.{Nothing, Refused, Page, Order, Settled, Value, Number, Quiet, Unfit}
 use Rattle.answers.specs.Numbers.{numberOf}
@@ -36,7 +36,9 @@ refusalAt n =
     (cond (eqb n 14) Mode
     (cond (eqb n 15) Odd
     (cond (eqb n 17) Toggle
-    (cond (eqb n 24) Run Length))))))))))))))))
+    (cond (eqb n 20) Symbol
+    (cond (eqb n 21) Count
+    (cond (eqb n 24) Run Length))))))))))))))))))
 
 abbrev settledAt : Bool → ℕ → Answer
 settledAt true v = Settled (v - 256) true
@@ -73,6 +75,8 @@ refusal-again Wide = refl
 refusal-again Mode = refl
 refusal-again Odd = refl
 refusal-again Toggle = refl
+refusal-again Symbol = refl
+refusal-again Count = refl
 refusal-again Run = refl
 refusal-again Length = refl
 
@@ -112,6 +116,8 @@ never-zero Wide = refl
 never-zero Mode = refl
 never-zero Odd = refl
 never-zero Toggle = refl
+never-zero Symbol = refl
+never-zero Count = refl
 never-zero Run = refl
 never-zero Length = refl
 

@@ -42,7 +42,7 @@ settledOn ability master = saying 0x82 (if master then ability + 256 else abilit
 abbrev pub registerValue : (value : ℕ) → Said
 registerValue value = saying 0x83 value
 
--- A number: check bits, the positions of a gap, a count of readings, of answers, of messages or of bytes.
+-- A number: check bits, the positions of a gap, a count of readings, of answers, of messages, of symbols or of bytes.
 abbrev pub number : (n : ℕ) → Said
 number n = saying 0x84 n
 

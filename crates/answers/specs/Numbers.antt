@@ -1,7 +1,7 @@
 -- 01, "Refusal numbers": the table's first two columns; and what 01's amendments and requests of 02 add to them.
 use Prim.Native.Nat.{ℕ}
 use Rattle.answers.specs.declared.Refusal.{Refusal}
-use Rattle.answers.specs.declared.Refusal.the-variants.{Gap, Cut, Check, Selector, Tie, Changed, Echo, None, Roles, Register, Turn, Room, Wide, Mode, Odd, Toggle, Run, Length}
+use Rattle.answers.specs.declared.Refusal.the-variants.{Gap, Cut, Check, Selector, Tie, Changed, Echo, None, Roles, Register, Turn, Room, Wide, Mode, Odd, Toggle, Symbol, Count, Run, Length}
 
 -- Each refusal's number.
 abbrev pub numberOf : Refusal → ℕ
@@ -22,6 +22,9 @@ numberOf Mode = 14
 numberOf Odd = 15
 -- 01's amendments, request 7: "Refusals: 17 Toggle (Break)".
 numberOf Toggle = 17
+-- 02, request 10: "20 Symbol, 512 or more in the burst or in the lent state", "21 Count, a burst that takes the count past 406, or a finish at a count other than 406".
+numberOf Symbol = 20
+numberOf Count = 21
 -- 02, request 8: "25 Length, over 64", "24 Run, an unformatted page first".
 numberOf Run = 24
 numberOf Length = 25

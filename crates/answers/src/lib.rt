@@ -23,6 +23,8 @@ pub enum Refusal {
     Mode,
     Odd,
     Toggle,
+    Symbol,
+    Count,
     Run,
     Length,
 }
@@ -62,6 +64,8 @@ impl Refusal {
             Refusal::Mode => 14,
             Refusal::Odd => 15,
             Refusal::Toggle => 17,
+            Refusal::Symbol => 20,
+            Refusal::Count => 21,
             Refusal::Run => 24,
             Refusal::Length => 25,
         }

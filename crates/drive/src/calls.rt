@@ -2,6 +2,8 @@
 ghost use mathlib.Core.Path.{_≡_};
 ghost use Prim.Native.Nat.{_+_, _*_, _≤_};
 ghost use lib.ListN.{length};
+use crate::frames::parity_finish;
+use crate::frames::parity_take;
 use crate::message_runs::messages;
 use crate::runs::run;
 use answers::Answer;
@@ -239,6 +241,31 @@ fn answer_numbers(
     tell_none(answers, told)
 }
 
+// A call on a frame: operations 9 and 10. Any other has numbers only, or is unknown.
+fn answer_frames(
+    cells: &[u64; 65536],
+    operation: u64,
+    from: usize,
+    size: usize,
+    answers: &mut [u64; 196608],
+    told: usize,
+) -> usize
+    requires { ⌜ (from + size ≤ 65536) × (told + 6 ≤ 3 * from) ⌝ }
+    ensures { λ r. ⌜ r ≤ 3 * (from + size) ⌝ }
+{
+    if operation == 9 {
+        if 45 <= size {
+            return parity_take(cells, from, size, answers, told);
+        }
+    }
+    if operation == 10 {
+        if 45 <= size {
+            return parity_finish(cells, from, size, answers, told);
+        }
+    }
+    answer_numbers(cells, operation, from, size, answers, told)
+}
+
 // One call: an operation and its arguments, which start at a place.
 fn answer_one(
     cells: &[u64; 65536],
@@ -273,7 +300,7 @@ fn answer_one(
     if operation == 8 {
         return messages(cells, from, size, answers, told);
     }
-    answer_numbers(cells, operation, from, size, answers, told)
+    answer_frames(cells, operation, from, size, answers, told)
 }
 
 // All calls in the first cells, up to one that the cells do not hold whole; the number of cells of their answers.

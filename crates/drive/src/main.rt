@@ -7,6 +7,7 @@ ghost use lib.ListN.{length};
 
 mod calls;
 mod cells;
+mod frames;
 mod message_runs;
 mod runs;
 

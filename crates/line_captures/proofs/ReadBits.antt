@@ -12,8 +12,9 @@ use lib.Seq.{take-at, drop-at}
 use lib.Pow.{pow-add, pow-pos, shr-shr}
 use borrow.Author.Tests.{eqb-true, eq-eqb}
 use Rattle.page_word.specs.Word.{odd, bitsOf}
-use Rattle.page_check_bits.specs.CheckBits.{numeral, remainder, checkList, checkBits, agrees}
-use Rattle.page_check_bits.proofs.BinaryNumbers.{bit, digitsOf, digits-numeral}
+use Rattle.polynomials.specs.Binary.{numeral, digitsOf}
+use Rattle.polynomials.proofs.BinaryNumbers.{bit, digits-numeral}
+use Rattle.page_check_bits.specs.CheckBits.{remainder, checkList, checkBits, agrees}
 use Rattle.page_check_bits.proofs.CheckTheorem.{checkList-length}
 use Rattle.page_check_bits.proofs.WordBits.{bits-length, sumOf, sum-bits}
 use Rattle.line_writer.specs.Transitions.{sentBits}

@@ -9,8 +9,8 @@ use native.Mathlib.Omega.{arith}
 use lib.Dec.{eqb, ltb}
 use lib.ListN.{List·getD-eq-default}
 use borrow.Author.Tests.{ltb-true, ltb-false, eqb-true, eqb-false, ne-eqb}
-use Rattle.page_check_bits.proofs.BinaryNumbers.{bit}
-use Rattle.page_check_bits.proofs.Polynomials.{xor-self}
+use Rattle.polynomials.proofs.BinaryNumbers.{bit}
+use Rattle.polynomials.proofs.BinarySums.{xor-self}
 use Rattle.page_check_bits.proofs.Strength.{differing, AgreeOutside, Apart, bitAt, strength}
 use Rattle.page_word.specs.Word.{among}
 use Rattle.line_mode.specs.declared.modes.LineMode.{LineMode}

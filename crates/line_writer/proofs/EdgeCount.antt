@@ -12,7 +12,8 @@ use lib.Pow.{pow-pos, mod-pow-add, shr-lt}
 use lib.Seq.{take-suc, take-all}
 use Rattle.page_word.specs.Word.{bitsOf}
 use Rattle.page_check_bits.specs.CheckBits.{checkBits, checkList}
-use Rattle.page_check_bits.proofs.BinaryNumbers.{bit, odd-bit, digitsOf, trues, trues-append}
+use Rattle.polynomials.specs.Binary.{digitsOf}
+use Rattle.polynomials.proofs.BinaryNumbers.{bit, odd-bit, trues, trues-append}
 use Rattle.page_check_bits.proofs.CheckTheorem.{checkList-digits, check-below}
 use Rattle.line_mode.specs.declared.modes.LineMode.{LineMode}
 use Rattle.line_page.specs.Pattern.{standsAt}

@@ -11,7 +11,7 @@ use lib.Pow.{shr-shr}
 use lib.Seq.{getD-append-add}
 use Rattle.page_word.specs.Word.{odd, bitsOf}
 use Rattle.page_check_bits.specs.CheckBits.{checkList, checkBits}
-use Rattle.page_check_bits.proofs.BinaryNumbers.{digit-at}
+use Rattle.polynomials.proofs.BinaryNumbers.{digit-at}
 use Rattle.page_check_bits.proofs.WordBits.{bits-length}
 use Rattle.page_check_bits.proofs.CheckTheorem.{checkList-length, checkList-digits}
 use Rattle.line_writer.specs.Transitions.{sentBits}

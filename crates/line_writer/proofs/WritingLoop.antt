@@ -11,7 +11,7 @@ use lib.Seq.{drop-cons, set-at}
 use Rattle.line_mode.specs.declared.modes.LineMode.{LineMode}
 use Rattle.line_writer.specs.Transitions.{hasTransition, sentBits, positionsTo, transitions, readingAt, readings, edgeCount}
 use Rattle.line_writer.proofs.EdgeCount.{count-more}
-use Rattle.page_check_bits.proofs.BinaryNumbers.{bit}
+use Rattle.polynomials.proofs.BinaryNumbers.{bit}
 
 pub more-yes : (test : ℕ → Bool) (n : ℕ) → test (suc n) ≡ true → positionsTo test (suc n) ≡ positionsTo test n ++ (suc n ∷ [])
 unfolding positionsTo

@@ -4,6 +4,7 @@ ghost use Rattle.answers.specs.Answers.{packed};
 ghost use Rattle.page_check_bits.specs.CheckBits.{checked};
 ghost use Rattle.page_resolve.specs.Resolving.{resolveSays};
 ghost use Rattle.page_messages.specs.Telling.{messagesOf};
+ghost use Rattle.frame_parity.specs.Taking.{takeOf, finishOf};
 ghost use Rattle.line_mode.specs.Gaps.{judged};
 ghost use Rattle.line_writer.specs.Writing.{writeOf};
 ghost use Rattle.line_captures.specs.Captures.{saidOfRead, readOf};
@@ -89,4 +90,22 @@ pub extern "C" fn maststep_messages(pages: &[u64], messages: &mut [u64]) -> u64
     ensures leaves { λ _. ⌜ now (messages .exit) ≡ messagesOf (now (pages .entry)) (now (messages .entry)) .list ⌝ }
 {
     page_messages::messages(pages, messages).packed()
+}
+
+// Takes a burst of data symbols into the lent state of a frame: the number of symbols taken so far, or 12, 21, 20.
+#[no_mangle]
+pub extern "C" fn maststep_parity_take(state: &mut [u16], burst: &[u16]) -> u64
+    ensures says { λ r. ⌜ r ≡ packed (takeOf (now (state .entry)) (now (burst .entry)) .says) ⌝ }
+    ensures leaves { λ _. ⌜ now (state .exit) ≡ takeOf (now (state .entry)) (now (burst .entry)) .list ⌝ }
+{
+    frame_parity::take_burst(state, burst).packed()
+}
+
+// Gives the parity symbols of a frame whose lent state has taken all data: their number, or 12, 21, 20.
+#[no_mangle]
+pub extern "C" fn maststep_parity_finish(state: &[u16], parity: &mut [u16]) -> u64
+    ensures says { λ r. ⌜ r ≡ packed (finishOf (now (state .entry)) (now (parity .entry)) .says) ⌝ }
+    ensures leaves { λ _. ⌜ now (parity .exit) ≡ finishOf (now (state .entry)) (now (parity .entry)) .list ⌝ }
+{
+    frame_parity::finish(state, parity).packed()
 }

@@ -1,6 +1,4 @@
-pub mod Polynomials
 pub mod Remainders
-pub mod BinaryNumbers
 pub mod WordBits
 pub mod Register
 pub mod CheckTheorem

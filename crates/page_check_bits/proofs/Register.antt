@@ -3,17 +3,20 @@ use mathlib.Core.Path.{_≡_, refl, sym, ap, ap₂, _∙_, subst}
 use mathlib.Core.Bool.{Bool, true, false, xor}
 use mathlib.Core.List.{List, [], _∷_, _++_}
 use Prim.Native.Nat.{ℕ, zero, suc, _+_, _*_, _/_, _%_, _^_, _≤_, _<_}
-use native.Mathlib.Nat.{zero-add, div-one}
+use native.Mathlib.Nat.{zero-add, add-zero, div-one}
 use native.Mathlib.Numerals.{add-one, one-add}
 use native.Mathlib.Omega.{arith}
 use lib.ListN.{length, replicate, length-append}
 use lib.Bits.{bitXor}
 use lib.Pow.{shr-shr}
 use Rattle.page_word.specs.Word.{odd, bitsOf}
-use Rattle.page_check_bits.specs.CheckBits.{plus, generator, divided, remainder, numeral}
-use Rattle.page_check_bits.proofs.Polynomials.{false-xor, plus-comm, plus-length}
+use Rattle.polynomials.specs.Polynomials.{plus, divided}
+use Rattle.polynomials.specs.Binary.{binary, numeral}
+use Rattle.polynomials.proofs.Sums.{plus-comm, plus-length}
+use Rattle.polynomials.proofs.BinarySums.{binary-sums, zero-step}
+use Rattle.polynomials.proofs.BinaryNumbers.{bit, odd-bit, highest, below, with-last, numeral-plus}
+use Rattle.page_check_bits.specs.CheckBits.{generator, remainder}
 use Rattle.page_check_bits.proofs.Remainders.{lower, remainder-length, one-more}
-use Rattle.page_check_bits.proofs.BinaryNumbers.{bit, odd-bit, highest, below, doubled, numeral-plus}
 
 -- The first bits of a number, one more: it stands at the end.
 pub bits-more : (n w : ℕ) → bitsOf (suc n) w ≡ bitsOf n w ++ (odd (w / 2 ^ n) ∷ [])
@@ -23,38 +26,38 @@ bits-more (suc n) w =
     ∙ ap (λ (x : ℕ). bitsOf n (w / 2) ++ (odd x ∷ [])) (shr-shr w 1 n ∙ ap (λ (k : ℕ). w / 2 ^ k) (one-add n)))
 
 -- A zero at the end of the shorter of two polynomials alters no sum.
-padded : (p q : List Bool) → length q ≡ length p + 1 → plus p q ≡ plus (p ++ (false ∷ [])) q
+padded : (p q : List Bool) → length q ≡ length p + 1 → plus binary p q ≡ plus binary (p ++ (false ∷ [])) q
 padded [] [] h = absurd (omega arith)
-padded [] (b ∷ []) h = ap (λ (x : Bool). x ∷ []) (sym (false-xor b))
+padded [] (b ∷ []) h = ap (λ (x : Bool). x ∷ []) (sym (binary-sums .nothing b))
 padded [] (b ∷ c ∷ q) h = absurd (omega arith)
 padded (a ∷ p) [] h = absurd (omega arith)
 padded (a ∷ p) (b ∷ q) h = ap (λ (l : List Bool). xor a b ∷ l) (padded p q (omega arith))
 
 -- Seventeen coefficients after a new bit: the register's number twice, and the bit at the top.
 pub entered : (r : List Bool) (d : Bool) → length r ≡ 16
-    → numeral (plus r (d ∷ replicate 16 false)) ≡ bitXor (numeral r * 2) (bit d * 65536)
+    → numeral (plus binary r (d ∷ replicate 16 false)) ≡ bitXor (numeral r * 2) (bit d * 65536)
 entered r d h =
     ap numeral (padded r (d ∷ replicate 16 false) (omega arith))
     ∙ numeral-plus (r ++ (false ∷ [])) (d ∷ replicate 16 false) (length-append r (false ∷ []) ∙ ap (λ (n : ℕ). n + 1) h)
-    ∙ ap₂ bitXor (doubled r) (top d)
+    ∙ ap₂ bitXor (with-last r false ∙ add-zero (numeral r * 2)) (top d)
   where
     top : (b : Bool) → numeral (b ∷ replicate 16 false) ≡ bit b * 65536
     top true = refl
     top false = refl
 
 -- One step of the division on seventeen coefficients: nothing is taken away below 2^16,
-pub step-low : (y : List Bool) → length y ≡ 17 → numeral y < 65536 → numeral (divided 1 y) ≡ numeral y
+pub step-low : (y : List Bool) → length y ≡ 17 → numeral y < 65536 → numeral (divided binary generator 1 y) ≡ numeral y
 step-low [] h l = refl
-step-low (false ∷ y) h l = sym (zero-add (numeral y))
+step-low (false ∷ y) h l = ap numeral (zero-step lower 0 y (omega arith)) ∙ sym (zero-add (numeral y))
 step-low (true ∷ y) h l = absurd (let n : length y ≡ 16 = omega arith in let e : numeral (true ∷ y) ≡ 1 * 2 ^ 16 + numeral y = highest true y ∙ ap (λ (k : ℕ). 1 * 2 ^ k + numeral y) n in omega arith)
 
 -- and the divisor from there on.
-pub step-high : (y : List Bool) → length y ≡ 17 → 65536 ≤ numeral y → numeral (divided 1 y) ≡ bitXor (numeral y) 98309
+pub step-high : (y : List Bool) → length y ≡ 17 → 65536 ≤ numeral y → numeral (divided binary generator 1 y) ≡ bitXor (numeral y) 98309
 unfolding xor
 step-high [] h l = absurd (omega arith)
 step-high (false ∷ y) h l = absurd (let n : length y ≡ 16 = omega arith in let e : numeral (false ∷ y) ≡ 0 * 2 ^ 16 + numeral y = highest false y ∙ ap (λ (k : ℕ). 0 * 2 ^ k + numeral y) n in let b : numeral y < 2 ^ 16 = subst (λ (k : ℕ). numeral y < 2 ^ k) n (below y) in omega arith)
 step-high (true ∷ y) h l =
-    ap numeral (plus-comm lower y) ∙ sym (zero-add (numeral (plus y lower))) ∙ numeral-plus (true ∷ y) generator h
+    ap numeral (plus-comm binary-sums lower y) ∙ sym (zero-add (numeral (plus binary y lower))) ∙ numeral-plus (true ∷ y) generator h
 
 -- What holds whenever the loop's test is reached: i bits of the word have entered.
 pub record Going (count word register rest i : ℕ) : Type 0 where
@@ -75,12 +78,12 @@ module _ (count word register rest i : ℕ) (g : Going count word register rest 
   halved = ap (λ (x : ℕ). x / 2) (g .left) ∙ shr-shr word i 1
 
   seventeen : List Bool
-  seventeen = plus (remainder (bitsOf i word)) (odd (word / 2 ^ i) ∷ replicate 16 false)
+  seventeen = plus binary (remainder (bitsOf i word)) (odd (word / 2 ^ i) ∷ replicate 16 false)
 
   seventeen-long : length seventeen ≡ 17
   unfolding seventeen
   seventeen-long =
-      plus-length (remainder (bitsOf i word)) (odd (word / 2 ^ i) ∷ replicate 16 false) (omega (arith, remainder-length (bitsOf i word)))
+      plus-length binary (remainder (bitsOf i word)) (odd (word / 2 ^ i) ∷ replicate 16 false) (omega (arith, remainder-length (bitsOf i word)))
 
   small : register < 65536
   small = rw (g .held) (subst (λ (n : ℕ). numeral (remainder (bitsOf i word)) < 2 ^ n) (remainder-length (bitsOf i word)) (below (remainder (bitsOf i word))))
@@ -98,13 +101,13 @@ module _ (count word register rest i : ℕ) (g : Going count word register rest 
       ∙ ap₂ (λ (a b : ℕ). bitXor (a * 2) (b * 65536)) (g .held) (sym (odd-bit rest) ∙ ap (λ (x : ℕ). bit (odd x)) (g .left))
       ∙ sym (entered (remainder (bitsOf i word)) (odd (word / 2 ^ i)) (remainder-length (bitsOf i word)))
 
-  stepped : divided 1 seventeen ≡ remainder (bitsOf (i + 1) word)
+  stepped : divided binary generator 1 seventeen ≡ remainder (bitsOf (i + 1) word)
   unfolding seventeen
   stepped =
       sym (one-more (bitsOf i word) (odd (word / 2 ^ i)))
       ∙ ap remainder (sym (bits-more i word) ∙ ap (λ (n : ℕ). bitsOf n word) (sym (add-one i)))
 
-  turn : (next : ℕ) → numeral (divided 1 seventeen) ≡ next → Going count word next (rest / 2) (i + 1)
+  turn : (next : ℕ) → numeral (divided binary generator 1 seventeen) ≡ next → Going count word next (rest / 2) (i + 1)
   turn next e = record { most = omega arith; left = halved; held = sym e ∙ ap numeral stepped }
 
   -- A turn that takes nothing away,

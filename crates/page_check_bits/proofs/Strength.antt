@@ -11,13 +11,16 @@ use lib.Dec.{eqb}
 use lib.ListN.{length, take, drop, getD, length-append, length-take, take-append-drop}
 use lib.Seq.{append-snoc, take-suc, take-all, take-at, getD-take, getD-drop, drop-drop}
 use Rattle.page_word.specs.Word.{bitsOf}
-use Rattle.page_check_bits.specs.CheckBits.{plus, remainder, checkList}
 use Rattle.page_word.proofs.ComputedTest.{everyBelow, at-each}
-use Rattle.page_check_bits.proofs.Polynomials.{xor-self, plus-length}
-use Rattle.page_check_bits.proofs.BinaryNumbers.{bit, trues, trues-append}
+use Rattle.polynomials.specs.Polynomials.{plus}
+use Rattle.polynomials.specs.Binary.{binary}
+use Rattle.polynomials.proofs.Sums.{plus-length, plus-at}
+use Rattle.polynomials.proofs.BinarySums.{xor-self, binary-sums}
+use Rattle.polynomials.proofs.BinaryNumbers.{bit, trues, trues-append}
+use Rattle.page_check_bits.specs.CheckBits.{remainder, checkList}
 use Rattle.page_check_bits.proofs.WordBits.{sumOf, word-of-bits}
-use Rattle.page_check_bits.proofs.Remainders.{zeros, times, quotient, quotient-length, remainder-length, divisible}
-use Rattle.page_check_bits.proofs.Multiples.{times-plus, times-even, none-left, without-start, without-end, short-zeros}
+use Rattle.page_check_bits.proofs.Remainders.{zeros, multiple, quotient, quotient-length, remainder-length, divisible}
+use Rattle.page_check_bits.proofs.Multiples.{multiple-plus, multiple-even, none-left, without-start, without-end, short-zeros}
 
 -- A pattern says at each place whether there is a one. In how many of the first n places two patterns differ:
 unfoldable pub differing : ℕ → (ℕ → Bool) → (ℕ → Bool) → ℕ
@@ -44,27 +47,19 @@ abbrev pub bitAt : List Bool → ℕ → Bool
 bitAt l k = getD l k false
 
 -- The places where two lists differ are the ones of their sum.
-plus-at : (p q : List Bool) (k : ℕ) → length p ≡ length q → bitAt (plus p q) k ≡ xor (bitAt p k) (bitAt q k)
-unfolding xor
-plus-at [] [] k h = refl
-plus-at [] (b ∷ q) k h = absurd (omega arith)
-plus-at (a ∷ p) [] k h = absurd (omega arith)
-plus-at (a ∷ p) (b ∷ q) zero h = refl
-plus-at (a ∷ p) (b ∷ q) (suc k) h = plus-at p q k (omega arith)
-
-differing-ones : (k : ℕ) (p q : List Bool) → length p ≡ length q → k ≤ length q → differing k (bitAt p) (bitAt q) ≡ trues (take k (plus p q))
+differing-ones : (k : ℕ) (p q : List Bool) → length p ≡ length q → k ≤ length q → differing k (bitAt p) (bitAt q) ≡ trues (take k (plus binary p q))
 unfolding differing
 differing-ones zero p q h l = refl
 differing-ones (suc k) p q h l = let before = differing-ones k p q h (omega arith) in omega (arith, last)
   where
-    last : trues (take (suc k) (plus p q)) ≡ trues (take k (plus p q)) + (bit (xor (bitAt p k) (bitAt q k)) + 0)
+    last : trues (take (suc k) (plus binary p q)) ≡ trues (take k (plus binary p q)) + (bit (xor (bitAt p k) (bitAt q k)) + 0)
     last =
-        ap trues (take-suc (plus p q) k false (omega (arith, plus-length p q (omega arith))))
-        ∙ trues-append (take k (plus p q)) (bitAt (plus p q) k ∷ [])
-        ∙ ap (λ (b : Bool). trues (take k (plus p q)) + (bit b + 0)) (plus-at p q k h)
+        ap trues (take-suc (plus binary p q) k false (omega (arith, plus-length binary p q (omega arith))))
+        ∙ trues-append (take k (plus binary p q)) (bitAt (plus binary p q) k ∷ [])
+        ∙ ap (λ (b : Bool). trues (take k (plus binary p q)) + (bit b + 0)) (plus-at binary-sums p q k h)
 
 -- Lists whose sum has no ones are the same.
-no-difference : (p q : List Bool) → length p ≡ length q → trues (plus p q) ≡ 0 → p ≡ q
+no-difference : (p q : List Bool) → length p ≡ length q → trues (plus binary p q) ≡ 0 → p ≡ q
 unfolding xor
 no-difference [] [] h e = refl
 no-difference [] (b ∷ q) h e = absurd (omega arith)
@@ -179,10 +174,10 @@ factor m = quotient (length m) (m ++ zeros 16)
 factor-length : (m : List Bool) → length (factor m) ≡ length m
 factor-length m = quotient-length (length m) (m ++ zeros 16) (length-append m (zeros 16))
 
-sum-multiple : (m n : List Bool) → length m ≡ length n → plus (sent m) (sent n) ≡ times (plus (factor m) (factor n))
+sum-multiple : (m n : List Bool) → length m ≡ length n → plus binary (sent m) (sent n) ≡ multiple (plus binary (factor m) (factor n))
 sum-multiple m n h =
-    ap₂ plus (sym (divisible m)) (sym (divisible n))
-    ∙ sym (times-plus (factor m) (factor n) (factor-length m ∙ h ∙ sym (factor-length n)))
+    ap₂ (plus binary) (sym (divisible m)) (sym (divisible n))
+    ∙ sym (multiple-plus (factor m) (factor n) (factor-length m ∙ h ∙ sym (factor-length n)))
 
 sent-64 : (m : List Bool) → length m ≡ 48 → length (sent m) ≡ 64
 sent-64 m h = length-append m (remainder m) ∙ ap₂ _+_ h (remainder-length m)
@@ -190,16 +185,16 @@ sent-64 m h = length-append m (remainder m) ∙ ap₂ _+_ h (remainder-length m)
 -- Two different messages of 48 bits, and what they add up to when sent.
 module _ (m n : List Bool) (long : length m ≡ 48) (long′ : length n ≡ 48) (other : m ≡ n → ⊥) where
   abbrev sum : List Bool
-  sum = plus (sent m) (sent n)
+  sum = plus binary (sent m) (sent n)
 
   as-long : length (sent m) ≡ length (sent n)
   as-long = sent-64 m long ∙ sym (sent-64 n long′)
 
   sum-64 : length sum ≡ 64
-  sum-64 = plus-length (sent m) (sent n) (omega (arith, as-long)) ∙ sent-64 n long′
+  sum-64 = plus-length binary (sent m) (sent n) (omega (arith, as-long)) ∙ sent-64 n long′
 
-  multiple : sum ≡ times (plus (factor m) (factor n))
-  multiple = sum-multiple m n (long ∙ sym long′)
+  sum-is-multiple : sum ≡ multiple (plus binary (factor m) (factor n))
+  sum-is-multiple = sum-multiple m n (long ∙ sym long′)
 
   counted : differing 64 (bitAt (sent m)) (bitAt (sent n)) ≡ trues sum
   counted =
@@ -207,10 +202,10 @@ module _ (m n : List Bool) (long : length m ≡ 48) (long′ : length n ≡ 48) 
       ∙ ap trues (take-all 64 sum (omega (arith, sum-64)))
 
   sum-even : trues sum % 2 ≡ 0
-  sum-even = ap (λ (l : List Bool). trues l % 2) multiple ∙ times-even (plus (factor m) (factor n))
+  sum-even = ap (λ (l : List Bool). trues l % 2) sum-is-multiple ∙ multiple-even (plus binary (factor m) (factor n))
 
   sum-leaves-none : remainder sum ≡ zeros 16
-  sum-leaves-none = ap remainder multiple ∙ none-left (plus (factor m) (factor n))
+  sum-leaves-none = ap remainder sum-is-multiple ∙ none-left (plus binary (factor m) (factor n))
 
   sum-some : trues sum ≡ 0 → ⊥
   sum-some e =
@@ -220,7 +215,7 @@ module _ (m n : List Bool) (long : length m ≡ 48) (long′ : length n ≡ 48) 
 
   -- Where the two agree the sum has a zero.
   zero-at : (k : ℕ) → bitAt (sent m) k ≡ bitAt (sent n) k → bitAt sum k ≡ false
-  zero-at k e = plus-at (sent m) (sent n) k as-long ∙ ap (λ (b : Bool). xor b (bitAt (sent n) k)) e ∙ xor-self (bitAt (sent n) k)
+  zero-at k e = plus-at binary-sums (sent m) (sent n) k as-long ∙ ap (λ (b : Bool). xor b (bitAt (sent n) k)) e ∙ xor-self (bitAt (sent n) k)
 
   sent-apart : Apart 64 16 (bitAt (sent m)) (bitAt (sent n))
   sent-apart =

@@ -12,6 +12,8 @@ use Rattle.page_resolve.specs.Rates.{hasAbility}
 use Rattle.page_resolve.specs.Roles.{roleOf}
 use Rattle.page_resolve.specs.Resolving.{resolutionOf}
 use Rattle.page_messages.specs.Telling.{anyWide, tellingOf, messagesOf}
+use Rattle.frame_polynomial.specs.Frame.{allSymbols}
+use Rattle.frame_parity.specs.Taking.{takeOf, finishOf}
 use Rattle.line_mode.specs.Modes.{modeOf}
 use Rattle.line_mode.specs.Gaps.{judgementOf}
 use Rattle.line_writer.specs.Transitions.{sentBits, hasTransition, positionsTo, transitions, readings, edgeCount}
@@ -76,7 +78,7 @@ stays : afterAll freshDevice (toAbility ++ pageFrom 8001000 0xA90002) ≡ withRe
 stays = after-page ∙ ap (withReader (Dropping 8125800)) (sym before-page)
 
 pub each-refusal : EachRefusal
-unfolding afterAll saysTo stepOver tickDue writeDue sentDue reportDue registerOf commanded ownPage echoingPage nonceFor beyondAckAndEcho part withPart edgeDue hears edgeOf goesOn dropsOn judgementOf asks standsAt isBit arrives isClock agrees checkBits checkList remainder xor readings transitions positionsTo hasTransition sentBits pageIn pageInAbility pageInAck basePageInAbility basePageInAck beyondAck nextPageInAbility nextPageInAck repeatsHeld decided nextOrNull nextAfter isLost talks acknowledging mayOrder orders counted resolutionOf hasAbility roleOf writeOf writeIn edgeCount modeOf readOf readIn runOf eventsOf eventOf listing given refusedLine decimal messagesOf tellingOf anyWide
+unfolding afterAll saysTo stepOver tickDue writeDue sentDue reportDue registerOf commanded ownPage echoingPage nonceFor beyondAckAndEcho part withPart edgeDue hears edgeOf goesOn dropsOn judgementOf asks standsAt isBit arrives isClock agrees checkBits checkList remainder xor readings transitions positionsTo hasTransition sentBits pageIn pageInAbility pageInAck basePageInAbility basePageInAck beyondAck nextPageInAbility nextPageInAck repeatsHeld decided nextOrNull nextAfter isLost talks acknowledging mayOrder orders counted resolutionOf hasAbility roleOf writeOf writeIn edgeCount modeOf readOf readIn runOf eventsOf eventOf listing given refusedLine decimal messagesOf tellingOf anyWide takeOf finishOf allSymbols
 each-refusal =
     record {
       gap = record { run = record { said = refl; left = refl }; left = refl };
@@ -104,6 +106,9 @@ each-refusal =
       wide-next = refl;
       odd = refl;
       toggle = one-end .toggle;
+      symbol = refl;
+      count = refl;
+      count-at-the-finish = refl;
       run = refl;
       too-long = refl;
     }

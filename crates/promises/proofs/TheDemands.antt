@@ -3,6 +3,10 @@ use Rattle.promises.specs.Demands.{Demands}
 use Rattle.line_captures.proofs.ReadingProved.{high-speed-back, low-speed-back}
 use Rattle.page_messages.proofs.Covered.{message-runs}
 use Rattle.page_messages.proofs.Worked.{worked-runs}
+use Rattle.frame_field.proofs.FieldProved.{field-laws}
+use Rattle.frame_polynomial.proofs.FramesProved.{frame-facts}
+use Rattle.frame_parity.proofs.Cutting.{any-cutting}
+use Rattle.frame_parity.proofs.Worked.{worked-frames}
 use Rattle.promises.proofs.Single.{no-second-answer}
 use Rattle.promises.proofs.Unmade.{not-made}
 use Rattle.promises.proofs.MadeFacts.{made-by-calls}
@@ -38,4 +42,8 @@ demands =
       next-page-facts = next-page-facts;
       message-runs = message-runs;
       worked-runs = worked-runs;
+      field-laws = field-laws;
+      frame-facts = frame-facts;
+      any-cutting = any-cutting;
+      worked-frames = worked-frames;
     }

@@ -7,6 +7,10 @@ use Rattle.line_mode.specs.Modes.{hsmMode, lsmMode}
 use Rattle.line_captures.specs.ReadingBack.{ReadingBack}
 use Rattle.page_messages.specs.Covering.{MessageRuns}
 use Rattle.page_messages.specs.WorkedRuns.{WorkedRuns}
+use Rattle.frame_field.specs.FieldLaws.{FieldLaws}
+use Rattle.frame_polynomial.specs.FrameFacts.{FrameFacts}
+use Rattle.frame_parity.specs.AnyCutting.{AnyCutting}
+use Rattle.frame_parity.specs.WorkedFrames.{WorkedFrames}
 use Rattle.promises.specs.OneAnswer.{NoSecondAnswer}
 use Rattle.promises.specs.NotMade.{NotMade}
 use Rattle.promises.specs.MadeByCalls.{MadeByCalls}
@@ -62,3 +66,11 @@ pub record Demands : Type 0 where
   pub message-runs : MessageRuns
   -- and runs worked out, a head's model among them, with each refusal.
   pub worked-runs : WorkedRuns
+  -- Request 10: symbols are a field, of which alpha's powers are all but zero;
+  pub field-laws : FieldLaws
+  -- a frame is zero at the 44 powers, no other 450 symbols are, and one to 44 changed symbols never make another frame;
+  pub frame-facts : FrameFacts
+  -- however the data are cut into bursts, the state and the parity are the same;
+  pub any-cutting : AnyCutting
+  -- and bursts and finishes worked out, with each refusal.
+  pub worked-frames : WorkedFrames

@@ -1,4 +1,4 @@
--- 01, "Refusal numbers", and requests 7 and 8: for each number of the table, and of these requests, an input that is refused with it, worked out, and what is left, as its last column has it.
+-- 01, "Refusal numbers", and requests 7, 8 and 10: for each number of the table, and of these requests, an input that is refused with it, worked out, and what is left, as its last column has it.
 use Prim.Native.Nat.{ℕ, _+_, _^_}
 use mathlib.Core.Path.{_≡_}
 use mathlib.Core.Bool.{true, false}
@@ -10,6 +10,8 @@ use Rattle.answers.specs.declared.Refusal.the-variants.{Gap, Cut, Check, Select
 use Rattle.answers.specs.declared.Refusal.the-variants as refusal
 use Rattle.page_word.specs.Word.{bitsOf}
 use Rattle.page_messages.specs.WorkedRuns.{CellsKept}
+use Rattle.frame_parity.specs.AnyCutting.{newFrame}
+use Rattle.frame_parity.specs.WorkedFrames.{StateKept, ParityKept}
 use Rattle.line_mode.specs.Modes.{lsmMode}
 use Rattle.line_writer.specs.Transitions.{hasTransition, positionsTo, readingAt}
 use Rattle.line_writer.specs.Writing.{writeOf}
@@ -112,6 +114,11 @@ pub record EachRefusal : Type 0 where
   pub odd : listing (0 ∷ 0 ∷ 0 ∷ 0 ∷ []) ≡ text "refused 15\n"
   -- 17, Toggle: "17 Toggle (Break)"
   pub toggle : WrongToggle
+  -- 20, Symbol, from the taking of a burst: "512 or more in the burst", here the last of a whole frame's data.
+  pub symbol : StateKept newFrame (replicate 405 511 ++ (512 ∷ [])) refusal.Symbol
+  -- 21, Count, there and from the finish: "a burst that takes the count past 406", here by one, "or a finish at a count other than 406", here of a new frame.
+  pub count : StateKept newFrame (replicate 407 511) refusal.Count
+  pub count-at-the-finish : ParityKept newFrame (replicate 44 7) refusal.Count
   -- 24, Run, from the reading of a message run: "an unformatted page first", here one alone: all bits below D13 are one.
   pub run : CellsKept (0x1FFF ∷ []) 3 refusal.Run
   -- 25, Length, there too: "over 64", here 256 pages with three cells for each.

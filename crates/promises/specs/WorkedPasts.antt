@@ -1,9 +1,9 @@
 -- Three very different pasts, and what demand 3 comes to for them.
-use Prim.Native.Nat.{_^_}
+use Prim.Native.Nat.{ℕ, _^_}
 use mathlib.Core.Path.{_≡_}
 use mathlib.Core.Bool.{true, false}
 use mathlib.Core.List.{List, [], _∷_, _++_, map}
-use Rattle.answers.specs.Answers.{nothing, pageOrdered, registerValue}
+use Rattle.answers.specs.Answers.{Said, nothing, pageOrdered, registerValue}
 use Rattle.line_mode.specs.Clock.{timeBetween}
 use Rattle.line_reader.specs.declared.reader.Reader.the-variants.{Open}
 use Rattle.port_state.specs.declared.Device.{Device}
@@ -51,6 +51,11 @@ abbrev pub laterEvents : List Event
 laterEvents =
     Tick 7999703 8 ∷ Tick 7999704 9 ∷ Tick 8349704 0 ∷ Read 8349705 513 ∷ Read 8349706 513 ∷ Read 8349707 517 ∷ Read 8349708 520 ∷ Read 8349709 523 ∷ []
 
+-- What is said to these events: the page is ordered, and the registers have their values, 513 at its first read and 520 those that are given here.
+abbrev pub laterSays : (status own : ℕ) → List Said
+laterSays status own =
+    nothing ∷ nothing ∷ pageOrdered 0x890001 ∷ registerValue status ∷ registerValue 0x08 ∷ registerValue 0 ∷ registerValue own ∷ registerValue 0 ∷ []
+
 -- Demand 3's premises hold: each has just gone into Break, the advertisements agree, and the shift is the difference of the entry readings modulo 2^32.
 -- All say the same, but for bit 6 of 513 at its first read, 08 and 48 hex: the second and the third had received a page. Of sixteen ones, all but bits 6 and 4 are
 -- compared. What the third had before it shows that there was something to forget.
@@ -60,10 +65,8 @@ pub record WorkedPasts : Type 0 where
   pub same-advertised : firstDevice .lasting .advertised ≡ secondDevice .lasting .advertised
   pub apart : timeBetween (readingOf secondEntry) (readingOf firstEntry) ≡ 9600296
   pub all-but-two : without6And4 (registerValue 0xFFFF) ≡ registerValue 0xFFAF
-  pub first-says : saysTo firstDevice laterEvents
-      ≡ nothing ∷ nothing ∷ pageOrdered 0x890001 ∷ registerValue 0x08 ∷ registerValue 0x08 ∷ registerValue 0 ∷ registerValue 0 ∷ registerValue 0 ∷ []
-  pub second-says : saysTo secondDevice (map (shiftedBy 9600296) laterEvents)
-      ≡ nothing ∷ nothing ∷ pageOrdered 0x890001 ∷ registerValue 0x48 ∷ registerValue 0x08 ∷ registerValue 0 ∷ registerValue 0 ∷ registerValue 0 ∷ []
+  pub first-says : saysTo firstDevice laterEvents ≡ laterSays 0x08 0
+  pub second-says : saysTo secondDevice (map (shiftedBy 9600296) laterEvents) ≡ laterSays 0x48 0
   pub third-had : saysTo (afterAll freshDevice thirdPast) (Read 0 517 ∷ Read 0 520 ∷ Read 0 523 ∷ [])
       ≡ registerValue 0xC0A1 ∷ registerValue 0x0123 ∷ registerValue 0x6805 ∷ []
   pub third-reads : afterAll freshDevice thirdPast .link .reader ≡ Open 3 10431650 0
@@ -71,5 +74,4 @@ pub record WorkedPasts : Type 0 where
   pub third-enters : entersBreak thirdEntry (afterAll freshDevice thirdPast) ≡ true
   pub third-advertised : firstDevice .lasting .advertised ≡ thirdDevice .lasting .advertised
   pub third-apart : timeBetween (readingOf thirdEntry) (readingOf firstEntry) ≡ 10440296
-  pub third-says : saysTo thirdDevice (map (shiftedBy 10440296) laterEvents)
-      ≡ nothing ∷ nothing ∷ pageOrdered 0x890001 ∷ registerValue 0x48 ∷ registerValue 0x08 ∷ registerValue 0 ∷ registerValue 0 ∷ registerValue 0 ∷ []
+  pub third-says : saysTo thirdDevice (map (shiftedBy 10440296) laterEvents) ≡ laterSays 0x48 0

@@ -3,16 +3,18 @@ use mathlib.Core.Path.{_≡_, refl, sym, ap, ap₂, _∙_}
 use mathlib.Core.Bool.{Bool, true, false, cond, xor}
 use mathlib.Core.List.{List, [], _∷_, _++_}
 use Prim.Native.Nat.{ℕ, zero, suc, _+_, _-_, _*_, _/_, _%_, _^_, _<_}
-use native.Mathlib.Nat.{le-of-suc-le-suc, not-suc-le-zero, mul-assoc, add-mul, add-assoc, pow-suc, mul-comm, zero-mul, one-mul, zero-add, mul-one, add-zero, mod-one, mod-eq-of-lt}
-use native.Mathlib.Numerals.{add-one, one-add}
+use native.Mathlib.Nat.{le-of-suc-le-suc, not-suc-le-zero, mul-assoc, add-mul, add-assoc, pow-suc, mul-comm, zero-mul, one-mul, zero-add, mul-one, add-zero, mod-one, mod-eq-of-lt, div-one}
+use native.Mathlib.Numerals.{one-add}
 use native.Mathlib.Omega.{arith}
-use lib.ListN.{length, getD, length-append}
+use lib.ListN.{length, getD, replicate}
 use lib.Arith.{digits-div}
 use lib.Bits.{bitXor, xor-step, differ}
-use lib.Pow.{mod-pow-add}
+use lib.Pow.{mod-pow-add, shr-shr}
 use borrow.Author.Tests.{eqb-true, eqb-false}
 use Rattle.page_word.specs.Word.{odd}
-use Rattle.page_check_bits.specs.CheckBits.{plus, numeral}
+use Rattle.polynomials.specs.Polynomials.{plus, scaled}
+use Rattle.polynomials.specs.Binary.{binary, numeral, digitsOf}
+use Rattle.polynomials.proofs.BinarySums.{no-multiple}
 
 -- A bit as a number.
 abbrev pub bit : Bool → ℕ
@@ -57,15 +59,13 @@ after n (b ∷ p) =
 pub from-zero : (p : List Bool) → numeral p ≡ numeralAfter 0 p
 from-zero p = sym (after 0 p ∙ ap (λ (x : ℕ). x + numeral p) (zero-mul (2 ^ length p)) ∙ zero-add (numeral p))
 
--- A zero more at the end doubles.
-pub doubled : (p : List Bool) → numeral (p ++ (false ∷ [])) ≡ numeral p * 2
-doubled [] = refl
-doubled (b ∷ p) =
-    highest b (p ++ (false ∷ []))
-    ∙ ap₂ (λ (n x : ℕ). bit b * 2 ^ n + x) (length-append p (false ∷ []) ∙ add-one (length p)) (doubled p)
-    ∙ ap (λ (x : ℕ). x + numeral p * 2) (ap (λ (x : ℕ). bit b * x) (pow-suc 2 (length p)) ∙ sym (mul-assoc (bit b) (2 ^ length p) 2))
-    ∙ sym (add-mul (bit b * 2 ^ length p) (numeral p) 2)
-    ∙ ap (λ (x : ℕ). x * 2) (sym (highest b p))
+-- A bit more at the end.
+after-last : (n : ℕ) (p : List Bool) (b : Bool) → numeralAfter n (p ++ (b ∷ [])) ≡ numeralAfter n p * 2 + bit b
+after-last n [] b = refl
+after-last n (a ∷ p) b = after-last (n * 2 + bit a) p b
+
+pub with-last : (p : List Bool) (b : Bool) → numeral (p ++ (b ∷ [])) ≡ numeral p * 2 + bit b
+with-last p b = from-zero (p ++ (b ∷ [])) ∙ after-last 0 p b ∙ ap (λ (n : ℕ). n * 2 + bit b) (sym (from-zero p))
 
 differ-bits : (a b : Bool) → differ (bit a) (bit b) ≡ bit (xor a b)
 unfolding xor
@@ -97,20 +97,15 @@ xor-longer x y a b =
     parity n c = let h = bit-below c in omega arith
 
 -- Adding polynomials of one length is the exclusive or of their numbers.
-plus-after : (x y : ℕ) (p q : List Bool) → length p ≡ length q → numeralAfter (bitXor x y) (plus p q) ≡ bitXor (numeralAfter x p) (numeralAfter y q)
+plus-after : (x y : ℕ) (p q : List Bool) → length p ≡ length q → numeralAfter (bitXor x y) (plus binary p q) ≡ bitXor (numeralAfter x p) (numeralAfter y q)
 plus-after x y [] [] h = refl
 plus-after x y [] (b ∷ q) h = absurd (let z : _≡_ {A = ℕ} 0 1 = cc h in omega arith)
 plus-after x y (a ∷ p) [] h = absurd (let z : _≡_ {A = ℕ} 0 1 = cc h in omega arith)
 plus-after x y (a ∷ p) (b ∷ q) h =
-    ap (λ (n : ℕ). numeralAfter n (plus p q)) (sym (xor-longer x y a b)) ∙ plus-after (x * 2 + bit a) (y * 2 + bit b) p q (cc h)
+    ap (λ (n : ℕ). numeralAfter n (plus binary p q)) (sym (xor-longer x y a b)) ∙ plus-after (x * 2 + bit a) (y * 2 + bit b) p q (cc h)
 
-pub numeral-plus : (p q : List Bool) → length p ≡ length q → numeral (plus p q) ≡ bitXor (numeral p) (numeral q)
-numeral-plus p q h = from-zero (plus p q) ∙ plus-after 0 0 p q h ∙ ap₂ bitXor (sym (from-zero p)) (sym (from-zero q))
-
--- The lowest n bits of a number, highest first.
-abbrev pub digitsOf : ℕ → ℕ → List Bool
-digitsOf zero s = []
-digitsOf (suc n) s = odd (s / 2 ^ n) ∷ digitsOf n s
+pub numeral-plus : (p q : List Bool) → length p ≡ length q → numeral (plus binary p q) ≡ bitXor (numeral p) (numeral q)
+numeral-plus p q h = from-zero (plus binary p q) ∙ plus-after 0 0 p q h ∙ ap₂ bitXor (sym (from-zero p)) (sym (from-zero q))
 
 pub digits-length : (n s : ℕ) → length (digitsOf n s) ≡ n
 digits-length zero s = refl
@@ -145,6 +140,25 @@ numeral-after-digits (suc n) s x =
 
 pub numeral-digits : (n s : ℕ) → s < 2 ^ n → numeral (digitsOf n s) ≡ s
 numeral-digits n s h = from-zero (digitsOf n s) ∙ numeral-after-digits n s 0 ∙ ap₂ _+_ (zero-mul (2 ^ n)) (mod-eq-of-lt h) ∙ zero-add s
+
+-- The lowest digit stands at the end.
+pub digits-last : (n s : ℕ) → digitsOf (suc n) s ≡ digitsOf n (s / 2) ++ (odd s ∷ [])
+digits-last zero s = ap (λ (x : ℕ). odd x ∷ []) (div-one s)
+digits-last (suc n) s =
+    ap₂ _∷_ (ap odd (ap (λ (k : ℕ). s / 2 ^ k) (sym (one-add n)) ∙ sym (shr-shr s 1 n))) (digits-last n s)
+
+-- A list times a bit, and a list of zeros, as numbers.
+pub numeral-zeros : (n : ℕ) → numeral (replicate n false) ≡ 0
+numeral-zeros zero = refl
+numeral-zeros (suc n) = zero-add (numeral (replicate n false)) ∙ numeral-zeros n
+
+one-multiple : (p : List Bool) → scaled binary true p ≡ p
+one-multiple [] = refl
+one-multiple (a ∷ p) = ap (λ (l : List Bool). a ∷ l) (one-multiple p)
+
+pub numeral-scaled : (b : Bool) (p : List Bool) → numeral (scaled binary b p) ≡ bit b * numeral p
+numeral-scaled true p = ap numeral (one-multiple p) ∙ sym (one-mul (numeral p))
+numeral-scaled false p = ap numeral (no-multiple p) ∙ numeral-zeros (length p) ∙ sym (zero-mul (numeral p))
 
 -- The digit at a place.
 pub digit-at : (n s j : ℕ) → j < n → getD (digitsOf n s) j false ≡ odd (s / 2 ^ (n - suc j))

@@ -1,0 +1,6 @@
+pub mod ExclusiveOr
+pub mod TimesAlpha
+pub mod PowersOfAlpha
+pub mod TimesBits
+pub mod Products
+pub mod FieldProved

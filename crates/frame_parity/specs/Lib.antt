@@ -1,0 +1,4 @@
+pub mod Taking
+pub mod Working
+pub mod AnyCutting
+pub mod WorkedFrames
