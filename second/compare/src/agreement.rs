@@ -92,6 +92,47 @@ pub fn assert_answer_cells(calls_and_cells: &[(Call, Vec<u64>)]) {
     fail_if_any(&differences);
 }
 
+/// Sends all calls in one process and fails the test unless these cells come out. The
+/// model is not asked.
+pub fn assert_output(calls: &[Call], expected: &[u64]) {
+    let output = drive::run(&to_bytes(&all_cells(calls))).expect("drive ends well");
+    let same_cells = whole_cells(&output)
+        .iter()
+        .zip(expected)
+        .take_while(|(got, expected)| got == expected)
+        .count();
+    assert!(
+        output == to_bytes(expected),
+        "{} cells expected, {} bytes came, of which the first {same_cells} cells are right",
+        expected.len(),
+        output.len()
+    );
+}
+
+/// Sends the calls in many orders and fails the test unless each is always answered as if
+/// it were sent alone. The model is not asked.
+pub fn assert_rows_do_not_disturb(calls: &[Call]) {
+    let output = |calls: &[&Call]| {
+        let cells: Vec<u64> = calls.iter().flat_map(|call| call.cells()).collect();
+        drive::run(&to_bytes(&cells)).expect("drive ends well")
+    };
+    let alone: Vec<Vec<u8>> = calls.iter().map(|call| output(&[call])).collect();
+    for turned in 0..calls.len() {
+        let order: Vec<usize> = (0..calls.len())
+            .map(|place| (place + turned) % calls.len())
+            .collect();
+        let backwards: Vec<usize> = order.iter().copied().rev().collect();
+        for order in [order, backwards] {
+            let row: Vec<&Call> = order.iter().map(|index| &calls[*index]).collect();
+            let expected: Vec<u8> = order
+                .iter()
+                .flat_map(|index| alone[*index].clone())
+                .collect();
+            assert!(output(&row) == expected, "in the order {order:?}");
+        }
+    }
+}
+
 /// Sends the calls in one process and gives the first answer cell of each, if it has one.
 pub fn answers(calls: &[Call]) -> Result<Vec<Option<u64>>, String> {
     let output = drive::run(&to_bytes(&all_cells(calls)))?;

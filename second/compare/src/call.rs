@@ -1,6 +1,7 @@
 //! One call of `drive`: an operation and its arguments.
 
 use crate::event::EventCells;
+use reference::parity::STATE_ENTRIES;
 use std::fmt;
 
 pub const CHECK: u64 = 1;
@@ -11,8 +12,10 @@ pub const RESOLVE: u64 = 5;
 pub const RUN: u64 = 6;
 pub const EDGES: u64 = 7;
 pub const MESSAGES: u64 = 8;
+pub const PARITY_TAKE: u64 = 9;
+pub const PARITY_FINISH: u64 = 10;
 /// All operations, each with the fewest arguments with which it has an answer.
-pub const OPERATIONS: [(u64, usize); 8] = [
+pub const OPERATIONS: [(u64, usize); 10] = [
     (CHECK, 1),
     (JUDGE, 2),
     (WRITE, 4),
@@ -21,6 +24,8 @@ pub const OPERATIONS: [(u64, usize); 8] = [
     (RUN, 3),
     (EDGES, 1),
     (MESSAGES, 0),
+    (PARITY_TAKE, STATE_ENTRIES),
+    (PARITY_FINISH, STATE_ENTRIES),
 ];
 
 /// More arguments than this are not printed.
@@ -78,6 +83,16 @@ impl Call {
         Call::new(MESSAGES, pages)
     }
 
+    pub fn parity_take(state: &[u64], burst: &[u64]) -> Call {
+        let mut call = Call::new(PARITY_TAKE, state);
+        call.arguments.extend(burst);
+        call
+    }
+
+    pub fn parity_finish(state: &[u64]) -> Call {
+        Call::new(PARITY_FINISH, state)
+    }
+
     /// The call as it is sent.
     pub fn cells(&self) -> Vec<u64> {
         let mut cells = vec![self.operation, self.arguments.len() as u64];
@@ -107,6 +122,8 @@ impl fmt::Display for Call {
             RUN => "run",
             EDGES => "edges",
             MESSAGES => "messages",
+            PARITY_TAKE => "parity take",
+            PARITY_FINISH => "parity finish",
             _ => "unknown",
         };
         write!(out, "operation {} ({name}), ", self.operation)?;

@@ -23,6 +23,11 @@ pub fn modulo_2_to_32(cell: u64) -> u32 {
     (cell % (1 << 32)) as u32
 }
 
+/// What docs/INTERFACES.md says as "above 65 535 count as 65 535".
+pub fn at_most_65_535(cell: u64) -> u16 {
+    u16::try_from(cell).unwrap_or(u16::MAX)
+}
+
 #[cfg(test)]
 mod tests {
     use super::*;
@@ -43,5 +48,12 @@ mod tests {
     #[test]
     fn only_the_low_half_is_kept() {
         assert_eq!(modulo_2_to_32((7 << 32) + 9), 9);
+    }
+
+    #[test]
+    fn what_is_above_65_535_counts_as_65_535() {
+        let cells = [0, 9, 65_534, 65_535, 65_536, (1 << 32) + 9, u64::MAX];
+        let counted = [0, 9, 65_534, 65_535, 65_535, 65_535, 65_535];
+        assert_eq!(cells.map(at_most_65_535), counted);
     }
 }

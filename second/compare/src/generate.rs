@@ -2,11 +2,13 @@
 
 use crate::call::Call;
 use crate::captures::any_short_capture;
+use crate::frames::{any_finish, any_take};
 use crate::message_runs::{any_length, message_run, short_length};
 use crate::random::Random;
 use crate::runs::random_run;
 use crate::words::two_words;
 use reference::line_mode::{line_mode, LineMode, HSM, LSM};
+use reference::parity::STATE_ENTRIES;
 use reference::{check, page};
 
 const TWO_TO_32: u64 = 1 << 32;
@@ -24,6 +26,9 @@ const MOST_SHORT_READINGS: usize = 40;
 
 /// The runs of calls that are sent among others have up to so many events.
 const MOST_SHORT_EVENTS: u64 = 15;
+
+/// The bursts of calls that are sent among others have up to so many symbols.
+const MOST_SHORT_SYMBOLS: u64 = 10;
 
 pub const WRONG_MODES: [u64; 10] = [
     2,
@@ -267,6 +272,18 @@ pub fn messages_call(random: &mut Random) -> Call {
 pub fn short_messages_call(random: &mut Random) -> Call {
     let length = short_length(random);
     Call::messages(&message_run(random, length))
+}
+
+/// A take with no more than a few symbols.
+pub fn short_take_call(random: &mut Random) -> Call {
+    let mut take = any_take(random).call;
+    let longest = random.below(MOST_SHORT_SYMBOLS + 1) as usize;
+    take.arguments.truncate(STATE_ENTRIES + longest);
+    take
+}
+
+pub fn finish_call(random: &mut Random) -> Call {
+    any_finish(random).call
 }
 
 pub fn first_reading(random: &mut Random) -> u64 {

@@ -1,9 +1,9 @@
 //! Compares the programs `drive` and `listing` with the reference, through a pipe.
 //!
-//! A test makes calls (`call`, `generate`, `captures`, `words`, `message_runs`, `runs`,
-//! `joined`), sends them to `drive` in batches (`drive`, `program`, `process`) and holds the
-//! output against what the reference gives (`model`, `agreement`). `windows` looks at the
-//! times of `joined`. `listing` does the same for the program of that name.
+//! A test makes calls (`call`, `generate`, `captures`, `words`, `message_runs`, `frames`,
+//! `runs`, `joined`), sends them to `drive` in batches (`drive`, `program`, `process`) and
+//! holds the output against what the reference gives (`model`, `agreement`). `windows` looks
+//! at the times of `joined`. `listing` does the same for the program of that name.
 
 pub mod agreement;
 pub mod call;
@@ -11,6 +11,7 @@ pub mod captures;
 pub mod cells;
 pub mod drive;
 pub mod event;
+pub mod frames;
 pub mod generate;
 pub mod history;
 pub mod host_log;

@@ -1,8 +1,11 @@
 //! What `drive` has to do, over the reference: bytes in, bytes out.
 
-use crate::call::{Call, CHECK, EDGES, JUDGE, MESSAGES, READ, RESOLVE, RUN, WRITE};
-use crate::cells::{modulo_2_to_32, to_bytes, whole_cells, MOST_CELLS};
+use crate::call::{
+    Call, CHECK, EDGES, JUDGE, MESSAGES, PARITY_FINISH, PARITY_TAKE, READ, RESOLVE, RUN, WRITE,
+};
+use crate::cells::{at_most_65_535, modulo_2_to_32, to_bytes, whole_cells, MOST_CELLS};
 use reference::messages::CELLS_OF_A_MESSAGE;
+use reference::parity::{PARITY_SYMBOLS, STATE_ENTRIES};
 use reference::{answer, calls};
 
 /// Everything that `drive` writes for this input.
@@ -55,6 +58,11 @@ pub fn answer_cells(call: &Call) -> Vec<u64> {
         (RUN, cells) => calls::run(cells.as_chunks().0),
         (EDGES, [mode, readings @ ..]) => edges(*mode, readings),
         (MESSAGES, pages) => messages(pages),
+        (PARITY_TAKE, cells) if cells.len() >= STATE_ENTRIES => {
+            let (state, burst) = cells.split_at(STATE_ENTRIES);
+            parity_take(state, burst)
+        }
+        (PARITY_FINISH, cells) if cells.len() >= STATE_ENTRIES => parity_finish(cells),
         _ => Vec::new(),
     }
 }
@@ -90,6 +98,30 @@ fn messages(pages: &[u64]) -> Vec<u64> {
     let mut cells = vec![answer];
     cells.extend(&room[..CELLS_OF_A_MESSAGE * messages]);
     cells
+}
+
+/// The state is answered as it is held, so with no entry above 65 535.
+fn parity_take(state: &[u64], burst: &[u64]) -> Vec<u64> {
+    let mut state = all_at_most_65_535(state);
+    let answer = calls::parity_take(&mut state, &all_at_most_65_535(burst));
+    let mut cells = vec![answer];
+    cells.extend(state.into_iter().map(u64::from));
+    cells
+}
+
+/// Of the parity symbols nothing is answered after a refusal.
+fn parity_finish(state: &[u64]) -> Vec<u64> {
+    let mut parity = [0; PARITY_SYMBOLS];
+    let answer = calls::parity_finish(&all_at_most_65_535(state), &mut parity);
+    let mut cells = vec![answer];
+    if answer::number_of(answer).is_some() {
+        cells.extend(parity.map(u64::from));
+    }
+    cells
+}
+
+fn all_at_most_65_535(cells: &[u64]) -> Vec<u16> {
+    cells.iter().map(|cell| at_most_65_535(*cell)).collect()
 }
 
 fn all_modulo_2_to_32(cells: &[u64]) -> Vec<u32> {
@@ -149,5 +181,44 @@ mod tests {
         assert_eq!(answer_cells(&call), expected);
         assert_eq!(answer_cells(&Call::messages(&[])), [answer::number(0)]);
         assert_eq!(answer_cells(&Call::messages(&[0, 0x2006])), [answer::RUN]);
+    }
+
+    /// A state with no symbol but the first one.
+    fn state(first_symbol: u64, count: u64) -> Vec<u64> {
+        let mut cells = vec![0; STATE_ENTRIES];
+        (cells[0], cells[STATE_ENTRIES - 1]) = (first_symbol, count);
+        cells
+    }
+
+    #[test]
+    fn a_take_answers_the_state_and_a_refused_one_the_state_as_it_is_held() {
+        let took = Call::parity_take(&state(7, 3), &[7]);
+        let expected = [&[answer::number(4)], &state(0, 4)[..]].concat();
+        assert_eq!(answer_cells(&took), expected);
+        let refused = Call::parity_take(&state(1 << 40, 1 << 16), &[]);
+        let expected = [&[answer::COUNT], &state(65_535, 65_535)[..]].concat();
+        assert_eq!(answer_cells(&refused), expected);
+    }
+
+    #[test]
+    fn a_finish_answers_44_symbols_and_a_refused_one_only_the_refusal() {
+        let finished = Call::parity_finish(&state(7, 406));
+        let expected = [&[answer::number(44)], &state(7, 0)[..44]].concat();
+        assert_eq!(answer_cells(&finished), expected);
+        let refused = [
+            (state(7, 65_536 + 406), answer::COUNT),
+            (state(65_536 + 7, 406), answer::SYMBOL),
+        ];
+        for (state, refusal) in refused {
+            assert_eq!(answer_cells(&Call::parity_finish(&state)), [refusal]);
+        }
+    }
+
+    #[test]
+    fn fewer_cells_than_a_state_has_are_too_few_arguments() {
+        for operation in [PARITY_TAKE, PARITY_FINISH] {
+            let call = Call::new(operation, &state(0, 406)[..44]);
+            assert_eq!(answer_cells(&call), []);
+        }
     }
 }

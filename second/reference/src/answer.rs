@@ -25,7 +25,7 @@ pub const REGISTER: u64 = refusal(10);
 /// Refusal 11: a page is told to be sent where none is out.
 pub const TURN: u64 = refusal(11);
 /// Refusal 12: the place is past the end, or the page does not fit from there on, or there
-/// are fewer cells than the messages need.
+/// are fewer cells than the messages, the lent state or the parity symbols need.
 pub const ROOM: u64 = refusal(12);
 /// Refusal 13: the word is 2^48 or more.
 pub const WIDE: u64 = refusal(13);
@@ -33,6 +33,10 @@ pub const WIDE: u64 = refusal(13);
 pub const MODE: u64 = refusal(14);
 /// Refusal 17: the Next Page has the same toggle as the page that is held.
 pub const TOGGLE: u64 = refusal(17);
+/// Refusal 20: a symbol is 512 or more.
+pub const SYMBOL: u64 = refusal(20);
+/// Refusal 21: the burst takes the count past 406, or a finish comes at another count.
+pub const COUNT: u64 = refusal(21);
 /// Refusal 24: the run begins with an unformatted page.
 pub const RUN: u64 = refusal(24);
 /// Refusal 25: the run has more than 64 pages.
@@ -90,8 +94,8 @@ pub const fn register(value: u16) -> u64 {
     (REGISTER_VALUE << 56) | value as u64
 }
 
-/// A plain number: check bits, a count of readings or of messages, or the positions of a
-/// gap.
+/// A plain number: check bits, a count of readings, of messages or of symbols, or the
+/// positions of a gap.
 pub const fn number(value: u64) -> u64 {
     (NUMBER << 56) | value
 }
@@ -129,6 +133,8 @@ mod tests {
         assert_eq!(WIDE, 0x0D00_0000_0000_0000);
         assert_eq!(MODE, 0x0E00_0000_0000_0000);
         assert_eq!(TOGGLE, 0x1100_0000_0000_0000);
+        assert_eq!(SYMBOL, 0x1400_0000_0000_0000);
+        assert_eq!(COUNT, 0x1500_0000_0000_0000);
         assert_eq!(RUN, 0x1800_0000_0000_0000);
         assert_eq!(LENGTH, 0x1900_0000_0000_0000);
         assert_eq!(number(81), 0x8400_0000_0000_0051);

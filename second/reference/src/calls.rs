@@ -1,11 +1,13 @@
 //! The calls that programs outside can make, each with its answer as one number.
 //! Wrong things are looked at in 01's order: Mode, Wide, Room; those of a message run in
-//! 02's: Length, Wide, Run, and then Room.
+//! 02's: Length, Wide, Run, and then Room; those of a frame's parity in that of the fixed
+//! interfaces: Room, and then 02's Count, Symbol.
 
 use crate::device::Device;
 use crate::event::event;
 use crate::line_mode::line_mode;
 use crate::messages::Message;
+use crate::parity::{State, PARITY_SYMBOLS, STATE_ENTRIES};
 use crate::resolve::{self, Settled};
 use crate::{answer, check, gap, messages, page, reader};
 
@@ -112,6 +114,43 @@ pub fn messages(pages: &[u64], room: &mut [u64]) -> u64 {
         None => return answer::ROOM,
     }
     answer::number(messages.len() as u64)
+}
+
+/// Takes a burst of symbols into the lent state and answers the new count. Entries past
+/// the 45th stay as they were, and all of them on a refusal.
+pub fn parity_take(state: &mut [u16], burst: &[u16]) -> u64 {
+    let Some(lent) = lent_state(state) else {
+        return answer::ROOM;
+    };
+    match lent.after(burst) {
+        Ok(next) => {
+            state[..STATE_ENTRIES].copy_from_slice(&next.entries());
+            answer::number(u64::from(next.count))
+        }
+        Err(refusal) => refusal,
+    }
+}
+
+/// Puts the parity symbols of a frame whose data were all taken into the room, the first
+/// sent first, and answers their number. Entries past them stay as they were, and all of
+/// them on a refusal.
+pub fn parity_finish(state: &[u16], room: &mut [u16]) -> u64 {
+    let (Some(lent), Some(room)) = (lent_state(state), room.get_mut(..PARITY_SYMBOLS)) else {
+        return answer::ROOM;
+    };
+    match lent.parity() {
+        Ok(parity) => {
+            room.copy_from_slice(&parity);
+            answer::number(PARITY_SYMBOLS as u64)
+        }
+        Err(refusal) => refusal,
+    }
+}
+
+/// The state in the first 45 entries, if there are so many.
+fn lent_state(entries: &[u16]) -> Option<State> {
+    let entries = entries.get(..STATE_ENTRIES)?.try_into().ok()?;
+    Some(State::from_entries(entries))
 }
 
 #[cfg(test)]
@@ -241,5 +280,68 @@ mod tests {
             assert_eq!(messages(pages, &mut room), refusal);
             assert_eq!(room, [7; 200]);
         }
+    }
+
+    /// A state of 47 entries, two more than are looked at.
+    fn long_state(first_symbol: u16, count: u16) -> [u16; 47] {
+        let mut state = [0; 47];
+        (state[0], state[44], state[45], state[46]) = (first_symbol, count, 7000, 7001);
+        state
+    }
+
+    #[test]
+    fn taking_changes_the_first_45_entries_and_nothing_else() {
+        let mut state = long_state(5, 3);
+        // 5 Z^43 times Z and the burst's 5 times Z^44 add up to zero.
+        assert_eq!(parity_take(&mut state, &[5]), answer::number(4));
+        assert_eq!(state, long_state(0, 4));
+    }
+
+    #[test]
+    fn a_refused_burst_leaves_the_state() {
+        let refused = [
+            (long_state(0, 406), &[1][..], answer::COUNT),
+            (long_state(512, 406), &[512], answer::COUNT),
+            (long_state(512, 405), &[1], answer::SYMBOL),
+            (long_state(0, 405), &[512], answer::SYMBOL),
+        ];
+        for (before, burst, refusal) in refused {
+            let mut state = before;
+            assert_eq!(parity_take(&mut state, burst), refusal);
+            assert_eq!(state, before);
+        }
+    }
+
+    #[test]
+    fn a_finish_fills_44_entries_and_keeps_the_rest() {
+        let mut room = [7; 46];
+        let answer = parity_finish(&long_state(5, 406), &mut room);
+        assert_eq!(answer, answer::number(44));
+        assert_eq!(room[..2], [5, 0]);
+        assert_eq!(room[42..], [0, 0, 7, 7]);
+        for (state, refusal) in [
+            (long_state(5, 405), answer::COUNT),
+            (long_state(5, 407), answer::COUNT),
+            (long_state(512, 405), answer::COUNT),
+            (long_state(512, 406), answer::SYMBOL),
+        ] {
+            let mut room = [7; 46];
+            assert_eq!(parity_finish(&state, &mut room), refusal);
+            assert_eq!(room, [7; 46]);
+        }
+    }
+
+    #[test]
+    fn too_few_entries_are_refused_before_anything_else() {
+        for entries in [0, 1, 44] {
+            let mut state = vec![u16::MAX; entries];
+            assert_eq!(parity_take(&mut state, &[u16::MAX; 407]), answer::ROOM);
+            assert_eq!(state, vec![u16::MAX; entries]);
+            assert_eq!(parity_finish(&state, &mut [7; 44]), answer::ROOM);
+        }
+        let wrong = [u16::MAX; 45];
+        assert_eq!(parity_finish(&wrong, &mut [7; 43]), answer::ROOM);
+        assert_eq!(parity_finish(&wrong, &mut [7; 44]), answer::COUNT);
+        assert_eq!(parity_finish(&long_state(0, 406), &mut []), answer::ROOM);
     }
 }

@@ -1,10 +1,11 @@
 //! Message runs (operation 8): the borders of wish 8 one by one, with the answers written
 //! out. The random runs are in `random_messages`.
 
-use compare::agreement::{assert_agreement, assert_answer_cells};
+use compare::agreement::{
+    assert_agreement, assert_answer_cells, assert_output, assert_rows_do_not_disturb,
+};
 use compare::call::{all_cells, Call};
-use compare::cells::{to_bytes, whole_cells, MOST_CELLS};
-use compare::drive;
+use compare::cells::MOST_CELLS;
 use reference::answer::{number, LENGTH, RUN, WIDE};
 
 const TWO_TO_48: u64 = 1 << 48;
@@ -369,42 +370,7 @@ fn calls_of_all_sorts() -> Vec<Call> {
 
 #[test]
 fn calls_in_one_row_do_not_disturb_one_another() {
-    let output = |calls: &[&Call]| {
-        let cells: Vec<u64> = calls.iter().flat_map(|call| call.cells()).collect();
-        drive::run(&to_bytes(&cells)).expect("drive ends well")
-    };
-    let calls = calls_of_all_sorts();
-    let alone: Vec<Vec<u8>> = calls.iter().map(|call| output(&[call])).collect();
-    for turned in 0..calls.len() {
-        let order: Vec<usize> = (0..calls.len())
-            .map(|place| (place + turned) % calls.len())
-            .collect();
-        let backwards: Vec<usize> = order.iter().copied().rev().collect();
-        for order in [order, backwards] {
-            let row: Vec<&Call> = order.iter().map(|index| &calls[*index]).collect();
-            let expected: Vec<u8> = order
-                .iter()
-                .flat_map(|index| alone[*index].clone())
-                .collect();
-            assert!(output(&row) == expected, "in the order {order:?}");
-        }
-    }
-}
-
-/// Sends all calls in one process and fails unless these cells come out.
-fn assert_output(calls: &[Call], expected: &[u64]) {
-    let output = drive::run(&to_bytes(&all_cells(calls))).expect("drive ends well");
-    let same_cells = whole_cells(&output)
-        .iter()
-        .zip(expected)
-        .take_while(|(got, expected)| got == expected)
-        .count();
-    assert!(
-        output == to_bytes(expected),
-        "{} cells expected, {} bytes came, of which the first {same_cells} cells are right",
-        expected.len(),
-        output.len()
-    );
+    assert_rows_do_not_disturb(&calls_of_all_sorts());
 }
 
 #[test]

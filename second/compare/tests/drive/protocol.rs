@@ -2,7 +2,8 @@
 
 use compare::agreement::assert_scripts_agree;
 use compare::call::{
-    all_cells, printed, Call, CHECK, EDGES, JUDGE, MESSAGES, OPERATIONS, READ, RESOLVE, RUN, WRITE,
+    all_cells, printed, Call, CHECK, EDGES, JUDGE, MESSAGES, OPERATIONS, PARITY_FINISH,
+    PARITY_TAKE, READ, RESOLVE, RUN, WRITE,
 };
 use compare::cells::{to_bytes, whole_cells, MOST_CELLS};
 use compare::{drive, model};
@@ -52,7 +53,7 @@ fn assert_no_cells(unanswered: impl IntoIterator<Item = Call>) {
 fn unknown_operations_answer_no_cells() {
     let with_arguments =
         |operation| [0, 1, 7, 500].map(|count| Call::new(operation, &vec![1; count]));
-    assert_no_cells([0, 9, 99, u64::MAX].into_iter().flat_map(with_arguments));
+    assert_no_cells([0, 11, 99, u64::MAX].into_iter().flat_map(with_arguments));
 }
 
 #[test]
@@ -121,20 +122,21 @@ fn input_that_ends_inside_a_call_ends_the_program() {
 fn a_call_with_more_arguments_than_the_input_has_is_not_answered() {
     // Some of these become small numbers if only their low half is taken, or if they are
     // counted in bytes, eight for each cell.
-    let numbers = [
-        u64::MAX,
-        u64::MAX - 1,
-        1 << 63,
-        1 << 61,
-        (1 << 61) + 1,
-        (1 << 32) + 1,
-        (1 << 61) + 2,
-        (1 << 61) + 3,
-        (1 << 61) + 4,
+    let operations_and_numbers = [
+        (CHECK, u64::MAX),
+        (JUDGE, u64::MAX - 1),
+        (WRITE, 1 << 63),
+        (READ, 1 << 61),
+        (EDGES, (1 << 61) + 1),
+        (RESOLVE, (1 << 32) + 1),
+        (RUN, (1 << 61) + 2),
+        (99, (1 << 61) + 3),
+        (MESSAGES, (1 << 61) + 4),
+        (PARITY_TAKE, (1 << 61) + 4),
+        (PARITY_FINISH, (1 << 32) + 4),
     ];
     let mut scripts = Vec::new();
-    for (index, number_of_arguments) in numbers.into_iter().enumerate() {
-        let operation = [CHECK, JUDGE, WRITE, READ, EDGES, RESOLVE, RUN, 99, MESSAGES][index];
+    for (operation, number_of_arguments) in operations_and_numbers {
         let mut cells = known_check().cells();
         cells.extend([operation, number_of_arguments, 0, 0, 0, 0]);
         cells.extend(known_check().cells());

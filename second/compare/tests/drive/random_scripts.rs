@@ -1,11 +1,11 @@
 //! Random input, most of it nonsense: `drive` must end well and do what the model does.
 
 use compare::agreement::assert_scripts_agree;
-use compare::call::{all_cells, Call, MESSAGES, OPERATIONS};
+use compare::call::{all_cells, Call, MESSAGES, OPERATIONS, PARITY_FINISH, PARITY_TAKE};
 use compare::cells::to_bytes;
 use compare::generate::{
-    check_call, edges_call, judge_call, read_call, resolve_call, short_messages_call,
-    short_run_call, write_call,
+    check_call, edges_call, finish_call, judge_call, read_call, resolve_call, short_messages_call,
+    short_run_call, short_take_call, write_call,
 };
 use compare::kinds::{Kind, Kinds};
 use compare::model;
@@ -46,10 +46,22 @@ const SCRIPT_KINDS: &[Kind<Vec<u8>>] = &[
         answered(script, &[5, 6])
     }),
     ("has a run with two messages or more", |script| {
-        has_a_message_run(script, |cells| cells.len() >= 7)
+        has_a_call(script, MESSAGES, |cells| cells.len() >= 7)
     }),
     ("has a refused run of pages", |script| {
-        has_a_message_run(script, |cells| number_of(cells[0]).is_none())
+        has_a_call(script, MESSAGES, is_refused)
+    }),
+    ("has a burst that is taken", |script| {
+        has_a_call(script, PARITY_TAKE, is_a_number)
+    }),
+    ("has a refused burst", |script| {
+        has_a_call(script, PARITY_TAKE, is_refused)
+    }),
+    ("has a finished frame", |script| {
+        has_a_call(script, PARITY_FINISH, is_a_number)
+    }),
+    ("has a refused finish", |script| {
+        has_a_call(script, PARITY_FINISH, is_refused)
     }),
     ("has a call with too few arguments", |script| {
         let has_too_few = |call: &Call| {
@@ -63,7 +75,7 @@ const SCRIPT_KINDS: &[Kind<Vec<u8>>] = &[
         let calls = model::whole_calls(script);
         calls
             .iter()
-            .any(|call| call.operation == 0 || call.operation >= 9)
+            .any(|call| call.operation == 0 || call.operation > PARITY_FINISH)
     }),
 ];
 
@@ -77,11 +89,21 @@ fn answered(script: &[u8], operations: &[u64]) -> bool {
     })
 }
 
-/// Whether the script has a message run with answer cells of this kind.
-fn has_a_message_run(script: &[u8], is_of_this_kind: fn(&[u64]) -> bool) -> bool {
+/// Whether the script has a call of this operation with answer cells of this kind.
+fn has_a_call(script: &[u8], operation: u64, is_of_this_kind: fn(&[u64]) -> bool) -> bool {
     let calls = model::whole_calls(script);
-    let mut runs = calls.iter().filter(|call| call.operation == MESSAGES);
-    runs.any(|run| is_of_this_kind(&model::answer_cells(run)))
+    let mut of_this = calls.iter().filter(|call| call.operation == operation);
+    of_this.any(|call| is_of_this_kind(&model::answer_cells(call)))
+}
+
+/// Whether the first of these answer cells is a number.
+fn is_a_number(cells: &[u64]) -> bool {
+    cells.first().is_some_and(|cell| number_of(*cell).is_some())
+}
+
+/// Whether there is a first answer cell and it is none.
+fn is_refused(cells: &[u64]) -> bool {
+    !cells.is_empty() && !is_a_number(cells)
 }
 
 /// The number of bytes after the last whole call.
@@ -114,9 +136,9 @@ fn small_cells(random: &mut Random) -> Vec<u8> {
 
 fn small_cell(random: &mut Random) -> u64 {
     match random.below(20) {
-        0 => 9 + random.below(10),
+        0 => 11 + random.below(40),
         1 => random.any_number() >> random.below(64),
-        _ => random.below(9),
+        _ => random.below(11),
     }
 }
 
@@ -134,8 +156,8 @@ fn calls(random: &mut Random) -> Vec<u8> {
 }
 
 fn any_call(random: &mut Random) -> Call {
-    match random.below(13) {
-        0 => Call::new(random.pick(&[0, 9, 99, u64::MAX]), &[3; 4]),
+    match random.below(15) {
+        0 => Call::new(random.pick(&[0, 11, 99, u64::MAX]), &[3; 4]),
         1 => Call::new(random.pick(&OPERATIONS).0, &[1]),
         2 => write_call(random),
         3 => Call::write(random.below(3), 0, 0, 0, &[9; 3]),
@@ -145,6 +167,8 @@ fn any_call(random: &mut Random) -> Call {
         8 => resolve_call(random),
         9 => short_run_call(random),
         10 => short_messages_call(random),
+        11 => short_take_call(random),
+        12 => finish_call(random),
         _ => check_call(random),
     }
 }
