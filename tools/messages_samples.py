@@ -1,9 +1,9 @@
 """The samples of tools/messages, each with what it has to print, and the documents that tell what it prints."""
-import pathlib
 import subprocess
-import textwrap
 
-ROOT = pathlib.Path(__file__).resolve().parent.parent
+from tool_samples import ROOT, run_of, sample_faults, told_faults
+
+TOOL = ROOT / 'tools/messages'
 CAPTURE = 'samples/model-lsm.capture'
 # A listing with an attempt of each kind, and the first of the pages heard again after one that was not read.
 LISTING = '''mode LSM edges 700
@@ -83,24 +83,10 @@ SAMPLES = [
 ]
 
 
-def printed(arguments, text):
-    """What tools/messages does, given arguments and standard input."""
-    return subprocess.run([ROOT / 'tools/messages', *arguments.split()], input=text, capture_output=True, text=True)
-
-
-def sample_faults(arguments, text, status, wanted):
-    run = printed(arguments, text)
-    is_said = wanted in run.stderr and not run.stdout if status == 2 else run.stdout == wanted
-    if is_said and run.returncode == status:
-        return []
-    return [f'tools/messages {arguments} does not print {wanted!r} with exit status {status}, but {run.stdout + run.stderr!r} with {run.returncode}']
-
-
 def checks():
     """For each sample, and each document that tells what is printed, what is wrong with it, or nothing."""
-    yield from (sample_faults(*sample) for sample in SAMPLES)
-    listing = subprocess.run([ROOT / 'tools/list', ROOT / CAPTURE], stdout=subprocess.PIPE, text=True).stdout
-    text = printed('', listing).stdout
-    for name, block in ('README.md', textwrap.indent(f'\n{text}\n', '    ')), ('samples/README.md', f'\n```\n{text}```\n'):
-        is_told = text and block in (ROOT / name).read_text()
-        yield [] if is_told else [f'{name} does not tell what tools/list {CAPTURE} | tools/messages prints, which is\n{text}']
+    yield from (sample_faults(TOOL, *sample) for sample in SAMPLES)
+    listing = subprocess.run([ROOT / 'tools/list', ROOT / CAPTURE], stdout=subprocess.PIPE).stdout
+    text = run_of(TOOL, '', listing).stdout
+    for document in 'README.md', 'samples/README.md':
+        yield told_faults(document, f'tools/list {CAPTURE} | tools/messages', text)
