@@ -4,6 +4,7 @@
 
 mod device;
 mod messages;
+mod parity;
 
 /// The refusals, by the numbers of the scope and of its requests.
 #[derive(Clone, Copy)]
@@ -23,6 +24,8 @@ enum Refusal {
     Wide = 13,
     Mode = 14,
     Toggle = 17,
+    Symbol = 20,
+    Count = 21,
     Run = 24,
     Length = 25,
 }
@@ -401,6 +404,28 @@ pub unsafe extern "C" fn plain_messages(pages: *const u64, length: usize, list: 
 #[no_mangle]
 pub unsafe extern "C" fn plain_messages_in_one_loop(pages: *const u64, length: usize, list: *mut u64, room: usize) -> u64 {
     messages_by(messages::by_one_loop, pages, length, list, room)
+}
+
+/// As `maststep_parity_take`.
+///
+/// # Safety
+/// `state` points to `entries` entries that nothing else uses during the call, and `burst` to `length` symbols that
+/// nothing writes.
+#[no_mangle]
+pub unsafe extern "C" fn plain_parity_take(state: *mut u16, entries: usize, burst: *const u16, length: usize) -> u64 {
+    let state = core::slice::from_raw_parts_mut(state, entries);
+    packed(parity::take(state, core::slice::from_raw_parts(burst, length)))
+}
+
+/// As `maststep_parity_finish`.
+///
+/// # Safety
+/// `state` points to `entries` entries that nothing writes during the call, and `parity` to `room` entries that
+/// nothing else uses.
+#[no_mangle]
+pub unsafe extern "C" fn plain_parity_finish(state: *const u16, entries: usize, parity: *mut u16, room: usize) -> u64 {
+    let parity = core::slice::from_raw_parts_mut(parity, room);
+    packed(parity::finish(core::slice::from_raw_parts(state, entries), parity))
 }
 
 #[panic_handler]
