@@ -7,6 +7,7 @@ use lib.ListN.{length, replicate}
 use Rattle.polynomials.specs.Polynomials.{plus, scaled, divided}
 use Rattle.polynomials.specs.Binary.{binary}
 use Rattle.polynomials.proofs.Sums.{Sums, zeros-plus}
+use Rattle.polynomials.proofs.Division.{one-step}
 use Rattle.polynomials.proofs.Quotients.{Each, Monic}
 
 xor-comm : (a b : Bool) → xor a b ≡ xor b a
@@ -48,7 +49,8 @@ no-multiple (a ∷ l) = ap (λ (p : List Bool). false ∷ p) (no-multiple l)
 pub zero-step : (lower : List Bool) (n : ℕ) (p : List Bool) → length lower ≤ length p
     → divided binary (true ∷ lower) (suc n) (false ∷ p) ≡ divided binary (true ∷ lower) n p
 zero-step lower n p h =
-    ap (λ (l : List Bool). divided binary (true ∷ lower) n (plus binary l p)) (no-multiple lower)
+    one-step binary true lower false n p
+    ∙ ap (λ (l : List Bool). divided binary (true ∷ lower) n (plus binary l p)) (no-multiple lower)
     ∙ ap (divided binary (true ∷ lower) n) (zeros-plus binary-sums (length lower) p h)
 
 -- Any bits are fit to be divided by a polynomial whose highest coefficient is one.

@@ -10,6 +10,10 @@ use Rattle.polynomials.proofs.Sums.{Sums, nothing-right, plus-comm, plu
 
 -- The divisor is its highest coefficient and the lower ones, so many as a remainder has.
 module _ {A : Type 0} (over : Coefficients A) (top : A) (lower : List A) where
+  -- A step takes away the divisor times the highest coefficient.
+  pub one-step : (c : A) (n : ℕ) (p : List A) → divided over (top ∷ lower) (suc n) (c ∷ p) ≡ divided over (top ∷ lower) n (plus over (scaled over c lower) p)
+  one-step c n p = refl
+
   pub scaled-fits : (c : A) (n : ℕ) (p : List A) → length p ≡ n + length lower → length (scaled over c lower) ≤ length p
   scaled-fits c n p h = let m = length-map lower (over .product c) in omega arith
 
