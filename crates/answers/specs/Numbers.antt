@@ -1,5 +1,7 @@
 -- 01, "Refusal numbers": the table's first two columns; and what 01's amendments and requests of 02 add to them.
 use Prim.Native.Nat.{ℕ}
+use mathlib.Core.List.{List, [], _∷_}
+use Rattle.answers.specs.Choices.{if_then_else_, _=?_}
 use Rattle.answers.specs.declared.Refusal.{Refusal}
 use Rattle.answers.specs.declared.Refusal.the-variants.{Gap, Cut, Check, Selector, Tie, Changed, Echo, None, Roles, Register, Turn, Room, Wide, Mode, Odd, Toggle, Symbol, Count, Run, Length}
 
@@ -28,3 +30,14 @@ numberOf Count = 21
 -- 02, request 8: "25 Length, over 64", "24 Run, an unformatted page first".
 numberOf Run = 24
 numberOf Length = 25
+
+-- The first of these refusals that has this number; Gap, if none has.
+abbrev pub firstNumbered : (number : ℕ) → List Refusal → Refusal
+firstNumbered number [] = Gap
+firstNumbered number (refusal ∷ rest) = if number =? numberOf refusal then refusal else firstNumbered number rest
+
+-- The refusal that a number names; Gap, if it names none of these. (Gap itself needs no place in the list.)
+unfoldable pub refusalOf : (number : ℕ) → Refusal
+refusalOf number =
+    firstNumbered number
+    (Cut ∷ Check ∷ Selector ∷ Tie ∷ Changed ∷ Echo ∷ None ∷ Roles ∷ Register ∷ Turn ∷ Room ∷ Wide ∷ Mode ∷ Odd ∷ Toggle ∷ Symbol ∷ Count ∷ Run ∷ Length ∷ [])

@@ -2,7 +2,7 @@
 ghost use mathlib.Core.Path.{_≡_};
 ghost use Prim.Native.Nat.{_+_};
 ghost use Rattle.answers.specs.Choices.{if_then_else_};
-ghost use Rattle.answers.specs.Numbers.{numberOf};
+ghost use Rattle.answers.specs.Numbers.{numberOf, refusalOf};
 ghost use Rattle.answers.specs.Answers.{said, packed, saying};
 
 // The refusals, in the order of their numbers: 01's table, then what requests have added.
@@ -68,6 +68,34 @@ impl Refusal {
             Refusal::Count => 21,
             Refusal::Run => 24,
             Refusal::Length => 25,
+        }
+    }
+
+    // The refusal that a number names; the first, if it names none.
+    pub fn numbered(number: u8) -> Self
+        ensures { λ r. ⌜ r ≡ refusalOf number ⌝ }
+    {
+        match number {
+            2 => Refusal::Cut,
+            3 => Refusal::Check,
+            4 => Refusal::Selector,
+            5 => Refusal::Tie,
+            6 => Refusal::Changed,
+            7 => Refusal::Echo,
+            8 => Refusal::None,
+            9 => Refusal::Roles,
+            10 => Refusal::Register,
+            11 => Refusal::Turn,
+            12 => Refusal::Room,
+            13 => Refusal::Wide,
+            14 => Refusal::Mode,
+            15 => Refusal::Odd,
+            17 => Refusal::Toggle,
+            20 => Refusal::Symbol,
+            21 => Refusal::Count,
+            24 => Refusal::Run,
+            25 => Refusal::Length,
+            _ => Refusal::Gap,
         }
     }
 }

@@ -1,2 +1,3 @@
 pub mod Dues
 pub mod ClockAhead
+pub mod PlainRecordLaws

@@ -1,4 +1,5 @@
--- The device with one thing changed; all else stays. The record is put together only here and where a link is forgotten (Memory); other definitions read its fields.
+-- The device with one thing changed; all else stays. A device is put together only here, where a link is forgotten (Memory), and where numbers mean one (PlainRecords); other
+-- definitions read its fields.
 use Prim.Native.Nat.{ℕ}
 use mathlib.Core.Bool.{Bool, true, false}
 use Rattle.line_reader.specs.declared.reader.Reader.{Reader}

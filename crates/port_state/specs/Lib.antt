@@ -1,3 +1,4 @@
 pub mod Memory
 pub mod Changes
 pub mod Rounds
+pub mod PlainRecords

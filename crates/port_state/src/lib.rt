@@ -4,6 +4,7 @@ ghost use Rattle.answers.specs.Answers.{said};
 ghost use Rattle.port_state.specs.Memory.{Meets, due, noTalk, noNextPages, noLink, withoutLink, freshDevice, intoBreak, intoOff};
 
 mod changes;
+mod plain_record;
 mod rounds;
 
 use answers::Answer;
@@ -29,6 +30,16 @@ pub use changes::with_timer;
 pub use changes::with_transmit;
 use line_reader::Reader;
 use page_resolve::Resolution;
+pub use plain_record::PlainRecord;
+pub use plain_record::ReaderNumbers;
+pub use plain_record::SETTLED;
+pub use plain_record::device_of;
+pub use plain_record::is_set;
+pub use plain_record::reader_numbers;
+pub use plain_record::reader_of;
+pub use plain_record::record_of;
+pub use plain_record::round_of;
+pub use plain_record::state_of;
 pub use rounds::Round;
 pub use rounds::held_in_round;
 pub use rounds::is_base;
