@@ -9,3 +9,4 @@ pub use reader::Reader;
 pub use reader::Step;
 pub use reader::drop_on;
 pub use reader::go_on;
+pub use reader::open_on;

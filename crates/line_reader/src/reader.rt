@@ -5,7 +5,7 @@ ghost use Rattle.answers.specs.Choices.{if_then_else_, _=?_};
 ghost use Rattle.line_mode.specs.declared.modes.Judgement.the-variants.{Positions};
 ghost use Rattle.line_reader.specs.declared.endings.Heard.the-variants.{Nothing, Ended};
 ghost use Rattle.line_reader.specs.declared.reader.Reader.the-variants.{Open, Dropping};
-ghost use Rattle.line_reader.specs.Reading.{step, pageEnd, goesOn, edgeOf};
+ghost use Rattle.line_reader.specs.Reading.{step, opening, pageEnd, goesOn, edgeOf};
 use crate::endings::Ending;
 use crate::endings::Heard;
 use crate::pattern::spans;
@@ -128,6 +128,13 @@ pub fn go_on(mode: LineMode, at: u32, last: u32, bits: u64, reading: u32) -> Ste
     }
 }
 
+// The first edge of a fresh reader.
+pub fn open_on(reading: u32) -> Step
+    ensures { λ r. ⌜ r ≡ step Nothing (opening reading) ⌝ }
+{
+    opened(Heard::Nothing, reading)
+}
+
 // An edge after an attempt has ended.
 pub fn drop_on(mode: LineMode, last: u32, reading: u32) -> Step
     ensures { λ r. ⌜ r ≡ edgeOf mode (Dropping last) reading ⌝ }
@@ -145,7 +152,7 @@ impl Reader {
         ensures { λ r. ⌜ r ≡ edgeOf mode self reading ⌝ }
     {
         match self {
-            Reader::Fresh => opened(Heard::Nothing, reading),
+            Reader::Fresh => open_on(reading),
             Reader::Open { at, last, bits } => go_on(mode, at, last, bits, reading),
             Reader::Dropping { last } => drop_on(mode, last, reading),
         }

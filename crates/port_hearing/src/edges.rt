@@ -1,5 +1,6 @@
 // An edge: the reader takes it, and a good page does what state and round say.
 ghost use mathlib.Core.Path.{_≡_};
+ghost use mathlib.Core.Bool.{not, _&&_};
 ghost use Rattle.line_mode.specs.Modes.{lsmMode};
 ghost use Rattle.line_reader.specs.Reading.{edgeOf};
 ghost use Rattle.port_state.specs.Memory.{isTalking, Meets};
@@ -106,15 +107,22 @@ fn is_talking(state: State) -> bool
     }
 }
 
+// Whether an edge is taken, and not ignored.
+pub fn takes_edges(state: State, out: bool) -> bool
+    ensures { λ r. ⌜ r ≡ (isTalking state && not out) ⌝ }
+{
+    if out {
+        return false;
+    }
+    is_talking(state)
+}
+
 // An edge, over any mode's numbers.
 fn edge_by(mode: LineMode, device: Device, reading: u32) -> Reply
     ensures { λ r. ⌜ Meets r (edgeDue mode reading device) ⌝ }
 {
     let state = device.state;
-    if is_talking(state) {
-        if device.link.talk.out {
-            return answered(Answer::Nothing, device);
-        }
+    if takes_edges(state, device.link.talk.out) {
         return listen(mode, device, reading);
     }
     answered(Answer::Nothing, device)

@@ -5,3 +5,4 @@ mod heard_pages;
 mod next_pages;
 
 pub use edges::edge;
+pub use edges::takes_edges;

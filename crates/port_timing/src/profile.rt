@@ -36,10 +36,10 @@ pub(crate) fn run_out(number: u32, start: u32, reading: u32) -> bool
 }
 
 // The inhibit timer's number for most rates, and without one.
-const INHIBIT: u32 = 97500000;
+pub(crate) const INHIBIT: u32 = 97500000;
 
 // The inhibit timer's number for a rate.
-fn inhibit_for(ability: u8) -> u32
+pub(crate) fn inhibit_for(ability: u8) -> u32
     ensures { λ r. ⌜ r ≡ inhibitFor ability ⌝ }
 {
     if ability == 1 {

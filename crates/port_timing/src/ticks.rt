@@ -36,7 +36,7 @@ fn leave_break(device: Device, reading: u32, draw: u64) -> Device
 }
 
 // Whether an attempt is open whose last edge is too young for an order.
-fn holds_back(quiet: u32, reader: Reader, reading: u32) -> bool
+pub(crate) fn holds_back(quiet: u32, reader: Reader, reading: u32) -> bool
     ensures { λ r. ⌜ r ≡ holdsBack quiet reader reading ⌝ }
 {
     match reader {

@@ -6,7 +6,7 @@ use Rattle.port_hearing.proofs.edges.edge_by.Tie as tie
 
 returns : tie.Need-returns
 unfolding edgeDue
-returns c = as-due (c .answered .ensures) (simp (c .before .if2 .taken, c .before .before .if1 .taken, ← c .before .before .before .is-talking .ensures))
+returns c = as-due (c .listen .ensures) (simp (c .before .if1 .taken, ← c .before .before .takes-edges .ensures))
 
 pub edge-by-spec : {M : Type 1} → statement M
 unfolding edgeDue
@@ -16,6 +16,4 @@ edge-by-spec =
     (λ c κs. search needs) (λ c κs. search needs)
     returns
     (λ c κs. search needs)
-    (λ c. as-due (c .listen .ensures) (simp (c .before .if2 .left, c .before .before .if1 .taken, ← c .before .before .before .is-talking .ensures)))
-    (λ c κs. search needs)
-    (λ c. as-due (c .answered2 .ensures) (simp (c .before .if1 .left, ← c .before .before .is-talking .ensures))))
+    (λ c. as-due (c .answered .ensures) (simp (c .before .if1 .left, ← c .before .before .takes-edges .ensures))))

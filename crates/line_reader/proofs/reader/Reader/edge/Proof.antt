@@ -5,7 +5,7 @@ use Rattle.line_reader.proofs.reader.Reader.edge.Tie as tie
 
 returns : tie.Need-returns
 unfolding edgeOf
-returns c = rw (c .before .enum-told .given .1) (c .opened .ensures)
+returns c = rw (c .before .enum-told .given .1) (c .open-on .ensures)
 
 returns-2 : tie.Need-returns-2
 returns-2 c = rw (c .before .before .self .given .1) (c .go-on .ensures)
