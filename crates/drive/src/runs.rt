@@ -55,7 +55,7 @@ fn run_on(
 {
     let count = size / 3;
     take_cells(cells, from, size, events);
-    port_step::run(&events[..size], &mut said[..count]);
+    port_lent::run(&events[..size], &mut said[..count]);
     answers[told] = count as u64;
     tell_cells(answers, told + 1, said, count)
 }

@@ -8,9 +8,13 @@ ghost use Rattle.frame_parity.specs.Taking.{takeOf, finishOf};
 ghost use Rattle.line_mode.specs.Gaps.{judged};
 ghost use Rattle.line_writer.specs.Writing.{writeOf};
 ghost use Rattle.line_captures.specs.Captures.{saidOfRead, readOf};
+ghost use Rattle.port_state.specs.Memory.{freshDevice};
+ghost use Rattle.port_state.specs.PlainRecords.{deviceOf, recordOf};
 ghost use Rattle.port_step.specs.Runs.{runOf};
+ghost use Rattle.port_lent.specs.Lent.{stepOnRecord};
 ghost use Rattle.maststep.specs.NextPlace.{nextLeft};
 use line_captures::ReadOutcome;
+use port_state::PlainRecord;
 
 // The check bits of a word, or 13.
 #[no_mangle]
@@ -74,13 +78,35 @@ pub extern "C" fn maststep_read(list: &[u32], place: usize, mode: u32, next: &mu
     outcome.answer().packed()
 }
 
+// Makes a record that of a fresh device, whatever it held.
+#[no_mangle]
+pub extern "C" fn maststep_fresh(device: &mut PlainRecord)
+    ensures leaves { λ _. ⌜ now (device .exit) ≡ recordOf freshDevice ⌝ }
+{
+    *device = port_lent::fresh_record();
+}
+
+// Gives an event, as three numbers, to the device that a record means; the record then means the device afterwards.
+#[no_mangle]
+pub extern "C" fn maststep_step(
+    device: &mut PlainRecord,
+    kind: u64,
+    clock: u64,
+    argument: u64,
+) -> u64
+    ensures says { λ r. ⌜ r ≡ packed (stepOnRecord kind clock argument (now (device .entry)) .says) ⌝ }
+    ensures means { λ _. ⌜ deviceOf (now (device .exit)) ≡ stepOnRecord kind clock argument (now (device .entry)) .device ⌝ }
+{
+    port_lent::step_record(device, kind, clock, argument)
+}
+
 // A fresh device takes the events, three cells each, and the list gets one answer for each: their number, or 12.
 #[no_mangle]
 pub extern "C" fn maststep_run(events: &[u64], answers: &mut [u64]) -> u64
     ensures says { λ r. ⌜ r ≡ packed (runOf (now (events .entry)) (now (answers .entry)) .says) ⌝ }
     ensures leaves { λ _. ⌜ now (answers .exit) ≡ runOf (now (events .entry)) (now (answers .entry)) .list ⌝ }
 {
-    port_step::run(events, answers).packed()
+    port_lent::run(events, answers).packed()
 }
 
 // The messages of a run of heard pages, three cells each: their number, or 25, 13, 24, 12.

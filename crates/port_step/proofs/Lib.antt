@@ -1,2 +1,1 @@
-pub mod RunLoop
 pub mod DeviceExamples

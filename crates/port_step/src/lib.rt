@@ -1,7 +1,9 @@
-// The device: one step for each event, and a run of events as numbers.
+// The device: one step for each event, by value and where the device lies, and events as numbers.
 mod events;
-mod runs;
+mod in_place;
+mod numbers;
 
 pub use events::Event;
 pub use events::step;
-pub use runs::run;
+pub use in_place::step_in_place;
+pub use numbers::event_of;

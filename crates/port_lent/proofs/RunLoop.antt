@@ -1,4 +1,4 @@
--- The loop of a run: after each event its answer stands at the head of the list, and the device is the one after these events.
+-- The loop of a run: after each event its answer stands at the head of the list, and the record means the device after these events.
 use mathlib.Core.Path.{_≡_, refl, sym, ap, ap₂, _∙_, subst}
 use borrow.Author.Tests.{le-leb, lt-leb}
 use mathlib.Core.List.{List, [], _∷_, _++_, map, append-assoc, append-nil}
@@ -7,15 +7,20 @@ use native.Mathlib.Numerals.{add-one}
 use native.Mathlib.Omega.{arith}
 use lib.ListN.{length, getD, drop, set, length-append, length-drop}
 use lib.Seq.{drop-cons, set-at}
-use Rattle.answers.specs.Answers.{said, packed, number, leaving, putAt, kept}
+use Rattle.answers.specs.Answers.{packed, number, leaving, putAt, kept}
 use Rattle.answers.specs.declared.Refusal.the-variants.{Room}
 use Rattle.answers.proofs.PutAtStart.{put-at-start}
 use Rattle.port_state.specs.declared.Device.{Device}
-use Rattle.port_state.specs.declared.Reply.{Reply}
-use Rattle.port_state.specs.Memory.{Meets, freshDevice}
+use Rattle.port_state.specs.declared.plain_record.PlainRecord.{PlainRecord}
+use Rattle.port_state.specs.Memory.{Due, freshDevice}
+use Rattle.port_state.specs.PlainRecords.{deviceOf, recordOf}
+use Rattle.port_state.proofs.PlainRecordLaws.{comes-back}
 use Rattle.port_step.specs.declared.events.Event.{Event}
-use Rattle.port_step.specs.Steps.{stepDue, saysTo}
-use Rattle.port_step.specs.Runs.{eventOf, eventsOf, answersTo, runOf}
+use Rattle.port_step.specs.Steps.{saysTo}
+use Rattle.port_step.specs.Runs.{eventsOf, answersTo, runOf}
+use Rattle.port_lent.specs.declared.runs.EventNumbers.{EventNumbers}
+use Rattle.port_lent.specs.Lent.{stepOnRecord, Tells}
+use Rattle.port_lent.specs.Quickly.{numbersAt}
 
 -- There are a third as many events as cells.
 pub count-events : (cells : List ℕ) → length (eventsOf cells) ≡ length cells / 3
@@ -49,51 +54,52 @@ abbrev pub stillTo : List ℕ → Device → ℕ → List ℕ
 stillTo cells device place = map packed (saysTo device (eventsOf (drop place cells)))
 
 -- What holds whenever the loop's test is reached: so many events are taken.
-pub record Running (cells before list : List ℕ) (device : Device) (taken place : ℕ) : Type 0 where
+pub record Running (cells before list : List ℕ) (plain : PlainRecord) (taken place : ℕ) : Type 0 where
   pub done : List ℕ
   pub long : length done ≡ taken
   pub thrice : place ≡ 3 * taken
   pub most : 3 * taken ≤ length cells
   pub contents : list ≡ done ++ drop taken before
-  pub whole : answersTo cells ≡ done ++ stillTo cells device place
+  pub whole : answersTo cells ≡ done ++ stillTo cells (deviceOf plain) place
 
-pub start : (cells before : List ℕ) → Running cells before before freshDevice 0 0
-start cells before =
-    record { done = []; long = refl; thrice = refl; most = omega arith; contents = refl; whole = refl }
+pub start : (cells before : List ℕ) (plain : PlainRecord) → plain ≡ recordOf freshDevice → Running cells before before plain 0 0
+start cells before plain fresh =
+    record { done = []; long = refl; thrice = refl; most = omega arith; contents = refl; whole = ap (λ (d : Device). map packed (saysTo d (eventsOf cells))) (sym (ap deviceOf fresh ∙ comes-back freshDevice)) }
 
 -- The list keeps its length.
-pub same-long : (cells before list : List ℕ) (device : Device) (taken place : ℕ) → Running cells before list device taken place
+pub same-long : (cells before list : List ℕ) (plain : PlainRecord) (taken place : ℕ) → Running cells before list plain taken place
     → length (eventsOf cells) ≤ length before → length list ≡ length before
-same-long cells before list device taken place g enough =
+same-long cells before list plain taken place g enough =
     let n = count-events cells in
     let all = ap length (g .contents) ∙ length-append (g .done) (drop taken before) in
     let d = length-drop taken before in
     let l = g .long in
     let m = g .most in omega arith
 
-module _ (cells before list : List ℕ) (device : Device) (taken place : ℕ) (g : Running cells before list device taken place) (h : taken < length cells / 3)
+-- What is due at an event.
+abbrev pub dueAt : PlainRecord → EventNumbers → Due
+dueAt plain event = stepOnRecord (event .kind) (event .clock) (event .argument) plain
+
+module _ (cells before list : List ℕ) (plain : PlainRecord) (taken place : ℕ) (g : Running cells before list plain taken place) (h : taken < length cells / 3)
   where
-    -- The event that the loop takes next.
-    event : Event
-    event = eventOf (getD cells place 0) (getD cells (place + 1) 0) (getD cells (place + 2) 0)
+    -- What is due at the event that the loop takes next.
+    abbrev dueNext : Due
+    dueNext = dueAt plain (numbersAt cells place)
 
     pub inside : place + 3 ≤ length cells
     inside = let t = g .thrice in omega arith
 
-    next-answers : stillTo cells device place ≡ packed (stepDue event device .says) ∷ stillTo cells (stepDue event device .device) (place + 3)
-    unfolding event eventsOf saysTo
-    next-answers = ap (λ (l : List ℕ). map packed (saysTo device (eventsOf l))) (three-cells cells place inside)
+    next-answers : stillTo cells (deviceOf plain) place ≡ packed (dueNext .says) ∷ stillTo cells (dueNext .device) (place + 3)
+    unfolding eventsOf saysTo
+    next-answers = ap (λ (l : List ℕ). map packed (saysTo (deviceOf plain) (eventsOf l))) (three-cells cells place inside)
 
-    pub turn : (r : Reply) (answer : ℕ) (e : Event)
-        → e ≡ eventOf (getD cells place 0) (getD cells (place + 1) 0) (getD cells (place + 2) 0) → Meets r (stepDue e device)
-        → answer ≡ packed (said (r .answer)) → length (eventsOf cells) ≤ length before
-        → Running cells before (set list taken answer) (r .device) (taken + 1) (place + 3)
-    unfolding event
-    turn r answer e taken-one came told enough =
+    pub turn : (event : EventNumbers) (answer : ℕ) (after : PlainRecord) → event ≡ numbersAt cells place → Tells (record { answer = answer; after = after }) (dueAt plain event) → length (eventsOf cells) ≤ length before
+        → Running cells before (set list taken answer) after (taken + 1) (place + 3)
+    turn event answer after next came enough =
         record { done = g .done ++ (answer ∷ []); long = longer; thrice = (let t = g .thrice in omega arith); most = (let m = g .most in omega arith); contents = contents-more; whole = whole-more }
       where
-        met : Meets r (stepDue event device)
-        met = subst (λ (x : Event). Meets r (stepDue x device)) taken-one came
+        told : Tells (record { answer = answer; after = after }) dueNext
+        told = subst (λ (e : EventNumbers). Tells (record { answer = answer; after = after }) (dueAt plain e)) next came
 
         fits : taken < length before
         fits = let n = count-events cells in omega arith
@@ -108,18 +114,18 @@ module _ (cells before list : List ℕ) (device : Device) (taken place : ℕ) (g
             ∙ ap (λ (n : ℕ). g .done ++ (answer ∷ drop n before)) (sym (add-one taken))
             ∙ sym (append-assoc (g .done) (answer ∷ []) (drop (taken + 1) before))
 
-        whole-more : answersTo cells ≡ (g .done ++ (answer ∷ [])) ++ stillTo cells (r .device) (place + 3)
+        whole-more : answersTo cells ≡ (g .done ++ (answer ∷ [])) ++ stillTo cells (deviceOf after) (place + 3)
         whole-more =
             g .whole
             ∙ ap (λ (l : List ℕ). g .done ++ l) next-answers
-            ∙ ap₂ (λ (x : ℕ) (d : Device). g .done ++ (x ∷ stillTo cells d (place + 3))) (sym (told ∙ ap packed (met .answer))) (sym (met .device))
-            ∙ sym (append-assoc (g .done) (answer ∷ []) (stillTo cells (r .device) (place + 3)))
+            ∙ ap₂ (λ (x : ℕ) (d : Device). g .done ++ (x ∷ stillTo cells d (place + 3))) (sym (told .answer)) (sym (told .device))
+            ∙ sym (append-assoc (g .done) (answer ∷ []) (stillTo cells (deviceOf after) (place + 3)))
 
 -- After all events the list has all answers.
-pub finish : (cells before list : List ℕ) (device : Device) (taken place : ℕ) → Running cells before list device taken place → length cells / 3 ≤ taken
+pub finish : (cells before list : List ℕ) (plain : PlainRecord) (taken place : ℕ) → Running cells before list plain taken place → length cells / 3 ≤ taken
     → list ≡ putAt 0 (answersTo cells) before
 unfolding saysTo
-finish cells before list device taken place g h =
+finish cells before list plain taken place g h =
     g .contents
     ∙ ap₂ (λ (l : List ℕ) (n : ℕ). l ++ drop n before) (sym all-done) (sym (g .long) ∙ ap length (sym all-done))
     ∙ sym (put-at-start (answersTo cells) before)
@@ -128,7 +134,7 @@ finish cells before list device taken place g h =
     none-left = no-event (drop place cells) (let d = length-drop place cells in let t = g .thrice in omega arith)
 
     all-done : answersTo cells ≡ g .done
-    all-done = g .whole ∙ ap (λ (events : List Event). g .done ++ map packed (saysTo device events)) none-left ∙ append-nil (g .done)
+    all-done = g .whole ∙ ap (λ (events : List Event). g .done ++ map packed (saysTo (deviceOf plain) events)) none-left ∙ append-nil (g .done)
 
 -- Without room the call refuses and the list is kept;
 pub too-few : (cells list : List ℕ) → length list < length cells / 3 → runOf cells list ≡ kept Room list

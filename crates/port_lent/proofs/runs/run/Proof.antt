@@ -1,9 +1,9 @@
 use mathlib.Core.Path.{sym, ap, _∙_}
 use borrow.Author.Needs.{needs}
 use Rattle.answers.specs.Answers.{Leaves}
-use Rattle.port_step.proofs.RunLoop.{too-few, has-room, all-answered}
-use Rattle.port_step.proofs.runs.run.Statement.{statement}
-use Rattle.port_step.proofs.runs.run.Tie as tie
+use Rattle.port_lent.proofs.RunLoop.{too-few, has-room, all-answered}
+use Rattle.port_lent.proofs.runs.run.Statement.{statement}
+use Rattle.port_lent.proofs.runs.run.Tie as tie
 
 returns : tie.Need-returns
 returns c =
