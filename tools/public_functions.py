@@ -7,9 +7,9 @@ import re
 PUBLIC = re.compile(r'\bpub\s+(?:const\s+)?(?:extern\s+"[^"]*"\s+)?fn\s+(\w+)')
 CLAUSE = re.compile(r'\b(requires|ensures|ghost|decreases)\b|[{;]')
 
-# owner is the type whose method it is, or ''; clauses are the words of its contract, in order, and statements what stands between the
+# owner is the type whose method it is, or ''; has_result tells whether it gives one; clauses are the words of its contract, in order, and statements what stands between the
 # brackets of each.
-PublicFunction = collections.namedtuple('PublicFunction', 'owner name line clauses statements')
+PublicFunction = collections.namedtuple('PublicFunction', 'owner name line has_result clauses statements')
 
 
 def without_comments(source):
@@ -38,6 +38,11 @@ def clauses(text, place):
         yield found[0], text[text.index('{', found.end()) + 1:place - 1].strip()
 
 
+def has_result(text, place):
+    """Whether a function whose parameters open from place on gives a result."""
+    return text[closing(text, place, '()'):].lstrip().startswith('->')
+
+
 def functions(source):
     """The public functions of a file."""
     text = without_comments(source)
@@ -46,7 +51,7 @@ def functions(source):
         owners = [name for start, end, name in impls if start < found.start() < end]
         line = text.count('\n', 0, found.start()) + 1
         contract = list(clauses(text, found.end()))
-        yield PublicFunction(owners[0] if owners else '', found[1], line, [word for word, _ in contract], [statement for _, statement in contract])
+        yield PublicFunction(owners[0] if owners else '', found[1], line, has_result(text, found.end()), [word for word, _ in contract], [statement for _, statement in contract])
 
 
 def exported(sources):

@@ -83,6 +83,14 @@ no-second-answer =
       read = both;
       resolved = both;
       device = both;
+      event = both;
+      plain-record = both;
+      reader-numbers = both;
+      state = both;
+      round = both;
+      reader = both;
+      refusal = both;
+      meant = λ first second due e f. e ∙ sym f;
       answer = λ first second due a b e f. one-answer first second a b (e ∙ sym f);
       reply = λ first second due a b m n.
           ap₂ (λ (says : Answer) (device : Device). record { answer = says; device = device })

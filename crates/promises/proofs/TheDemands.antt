@@ -7,6 +7,7 @@ use Rattle.frame_field.proofs.FieldProved.{field-laws}
 use Rattle.frame_polynomial.proofs.FramesProved.{frame-facts}
 use Rattle.frame_parity.proofs.Cutting.{any-cutting}
 use Rattle.frame_parity.proofs.Worked.{worked-frames}
+use Rattle.port_lent.proofs.LentProved.{lent-device}
 use Rattle.promises.proofs.Single.{no-second-answer}
 use Rattle.promises.proofs.Unmade.{not-made}
 use Rattle.promises.proofs.MadeFacts.{made-by-calls}
@@ -46,4 +47,5 @@ demands =
       frame-facts = frame-facts;
       any-cutting = any-cutting;
       worked-frames = worked-frames;
+      lent-device = lent-device;
     }

@@ -2,7 +2,7 @@
 -- result is what the definition has (`Meets` does so for a device's reply): so "each step of negotiation" follows 01, and so it is with demand 1, "Every call takes
 -- any input, and every one ends. Nobody has to check anything beforehand. A refusal carries one number from document 01's table, given when its condition holds and
 -- not otherwise, and the state and lent memory after it are as written there." Each function's contract holds it: it is proved at every input that the
--- function is safe, ends and answers and leaves what its definition has; and no public function has a `requires`, which `tools/no-requires` checks.
+-- function is safe, ends and answers and leaves what its definition has (of a record of numbers that an event has changed, the device that it means: `NoSecondAnswer`, meant); and no public function has a `requires`, which `tools/no-requires` checks.
 use Rattle.line_mode.specs.Modes.{hsmMode, lsmMode}
 use Rattle.line_captures.specs.ReadingBack.{ReadingBack}
 use Rattle.page_messages.specs.Covering.{MessageRuns}
@@ -11,6 +11,7 @@ use Rattle.frame_field.specs.FieldLaws.{FieldLaws}
 use Rattle.frame_polynomial.specs.FrameFacts.{FrameFacts}
 use Rattle.frame_parity.specs.AnyCutting.{AnyCutting}
 use Rattle.frame_parity.specs.WorkedFrames.{WorkedFrames}
+use Rattle.port_lent.specs.LentDevice.{LentDevice}
 use Rattle.promises.specs.OneAnswer.{NoSecondAnswer}
 use Rattle.promises.specs.NotMade.{NotMade}
 use Rattle.promises.specs.MadeByCalls.{MadeByCalls}
@@ -74,3 +75,5 @@ pub record Demands : Type 0 where
   pub any-cutting : AnyCutting
   -- and bursts and finishes worked out, with each refusal.
   pub worked-frames : WorkedFrames
+  -- Request 14: calls on a record of plain numbers that a caller keeps and lends are answered as by the device that it means, and from a fresh one on as in a run.
+  pub lent-device : LentDevice
