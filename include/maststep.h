@@ -1,14 +1,21 @@
 /*
- * Maststep: the pages of a line negotiation and the parity of frames, for C (from C99 on) and C++ on x86-64 Linux.
+ * Maststep: a device that negotiates on a line, the pages of that negotiation and the parity of frames, for C (from C99
+ * on) and C++ on x86-64 Linux.
  *
  * Link with libmaststep.a. It needs nothing at all beside it, not even the C library: it calls nothing outside
- * of itself, and has no data of its own that it writes. It has less than 18 KiB of code and constants.
+ * of itself, and has no data of its own that it writes. It has less than 22 KiB of code and constants.
  *
  * Every call answers with one 64-bit number: the top byte is the kind of the answer and the other 56
  * bits are its value. maststep_kind and maststep_value take an answer apart.
  *
- * The calls keep nothing between them and may run in several threads at once, on lists that do not
- * overlap or that none of them writes.
+ * The library keeps nothing between calls: a device is memory of the caller's, as lists are. Calls may run at once, in
+ * several threads or in an interrupt, on devices and lists that do not overlap or that none of them writes.
+ *
+ * Calls on one device must not run at once. An interrupt that calls maststep_edge while the main loop is inside
+ * maststep_tick on the same device spoils it: no harm is done to memory, but what the device then is nobody can say. Let
+ * interrupts only note what happened, with its reading, in a queue, and let the main loop take it from there and make
+ * the calls, as examples/main_loop.c does; or mask the interrupt from the reading of the clock for a call to the end of
+ * that call.
  */
 #ifndef MASTSTEP_H
 #define MASTSTEP_H
@@ -21,7 +28,7 @@ extern "C" {
 #endif
 
 /* The version of this header: one more with each change that a program can see, in a name, a call or an answer. */
-#define MASTSTEP_VERSION 4
+#define MASTSTEP_VERSION 5
 
 /*
  * No call but two was seen to use more bytes of stack than MASTSTEP_MOST_STACK, its return address among them.
@@ -32,7 +39,7 @@ extern "C" {
  * As functions on x86-64 Linux may, the calls use bytes below the stack pointer too (the red zone); these are counted.
  */
 enum {
-    MASTSTEP_MOST_STACK = 512,
+    MASTSTEP_MOST_STACK = 1024,
     MASTSTEP_MOST_STACK_OF_MESSAGES = 4096,
     MASTSTEP_MOST_STACK_OF_PARITY_TAKE = 4096
 };
@@ -74,7 +81,7 @@ enum {
     MASTSTEP_LSM = 1  /* low speed: positions 800 ns apart */
 };
 
-/* The events that maststep_run takes. Others are answered with nothing, and change nothing. */
+/* The events that maststep_run and maststep_step take. Others are answered with nothing, and change nothing. */
 enum {
     MASTSTEP_EVENT_EDGE = 0,   /* a transition on the line; the argument is not looked at */
     MASTSTEP_EVENT_TICK = 1,   /* a look at the clock; the argument is the draw, taken modulo 32 */
@@ -194,7 +201,9 @@ enum {
 /* The kind of an answer: its top byte. */
 static inline unsigned maststep_kind(uint64_t answer)
 {
-    return (unsigned)(answer >> 56);
+    const uint64_t top = answer >> 56;
+
+    return top & 0xff;
 }
 
 /* The value of an answer: its low 56 bits. */
@@ -206,13 +215,13 @@ static inline uint64_t maststep_value(uint64_t answer)
 /* The ability of an answer or value that says what is settled: one of MASTSTEP_ABILITY_... */
 static inline unsigned maststep_ability(uint64_t settled)
 {
-    return (unsigned)(settled & 0xff);
+    return settled & 0xff;
 }
 
 /* The role in an answer or value that says what is settled: 1 where this side is master, 0 where it is slave. */
 static inline int maststep_is_master(uint64_t settled)
 {
-    return (int)(settled >> 8 & 1);
+    return (settled >> 8 & 1) != 0;
 }
 
 /* The word that has the bit of this ability and no other; 0 for a number past 26, since there is no such ability. */
@@ -224,13 +233,15 @@ static inline uint64_t maststep_ability_bit(unsigned ability)
 /* The word of a page whose three registers, D0-D15, D16-D31 and D32-D47, were read as these values. */
 static inline uint64_t maststep_word_of(uint16_t low, uint16_t middle, uint16_t high)
 {
-    return (uint64_t)high << 32 | (uint64_t)middle << 16 | low;
+    const uint64_t third = high, second = middle;
+
+    return third << 32 | second << 16 | low;
 }
 
 /* The argument of MASTSTEP_EVENT_WRITE that writes this value to the register of this number. */
 static inline uint64_t maststep_write_argument(uint32_t number, uint16_t value)
 {
-    return (uint64_t)number * 65536 + value;
+    return UINT64_C(65536) * number + value;
 }
 
 /*
@@ -347,6 +358,129 @@ uint64_t maststep_read(const uint32_t *list, size_t length, size_t place, uint32
  * a null pointer.
  */
 uint64_t maststep_run(const uint64_t *events, size_t cells, uint64_t *answers, size_t room);
+
+/*
+ * A device that the caller keeps: all that one end of a line remembers from event to event. It is plain numbers, declared
+ * so that a program can place one where it likes; nobody but maststep_fresh and maststep_step should touch its fields,
+ * and a later version may have others. It has 112 bytes.
+ *
+ * It holds no pointer and no secret: it may be copied (the copy is a second device, in the same state), kept anywhere,
+ * and moved. Two devices share nothing. Every content is taken, that of memory which nobody has set too; but only after
+ * maststep_fresh does a program know what its device is. A fresh device's numbers are all zero, so one in static memory,
+ * which C makes zero, is fresh too. The four bytes behind the last number belong to none and may become anything, so two
+ * devices are not to be compared byte by byte.
+ */
+typedef struct maststep_device {
+    uint64_t advertised; /* 514 to 516, as one word, as the next three are */
+    uint64_t partner;    /* 517 to 519 */
+    uint64_t transmit;   /* 520 to 522 */
+    uint64_t heard;      /* 523 to 525 */
+    uint64_t own_base;   /* the own base page */
+    uint64_t held_base;  /* the partner's, as it was first heard */
+    uint64_t own_next;   /* the own Next Page */
+    uint64_t held_next;  /* the partner's, as it was first heard */
+    uint64_t bits;       /* of an open attempt to read a page: the bits so far */
+    uint32_t last;       /* the reading of the last edge that was taken */
+    uint32_t position;   /* of an open attempt: the position of that edge */
+    uint32_t mark;       /* the reading of the mark */
+    uint32_t timer;      /* the reading at which the state's timer was started */
+    uint32_t good;       /* the reading of the last good page */
+    uint32_t count;      /* the pages sent in Complete */
+    uint8_t reader;      /* 0: fresh; 1: an attempt is open; any other: edges are dropped */
+    uint8_t state;       /* 0 Off, 1 Break, 2 Ability, 3 Ack, 4 Complete, 5 Check-link, 6 Up; any other means Off */
+    uint8_t is_out;      /* whether a page is out, as all that follow with is_: 0 is no, any other is yes */
+    uint8_t is_heard;    /* whether the mark is "heard"; else it is "waiting" */
+    uint8_t round;       /* 0 base, 1 first, any other later */
+    uint8_t is_loaded;   /* the loaded mark */
+    uint8_t is_latched;  /* the link latch */
+    uint8_t is_received; /* Page received */
+    uint8_t is_fault;    /* Remote fault */
+    uint8_t outcome;     /* 0: none yet; 0x82: settled; any other: the refusal of that number, or 1 where there is none */
+    uint8_t ability;     /* where it is settled: the rate, */
+    uint8_t is_master;   /* and the role */
+} maststep_device;
+
+/* Where a compiler is told to lay records out in another way than the library does, this does not compile. */
+typedef char maststep_device_has_112_bytes[sizeof(maststep_device) == 112 ? 1 : -1];
+
+/*
+ * Makes the device fresh, whatever the memory held: it is Off and all its registers are zero, but for bit 3 of
+ * MASTSTEP_STATUS, which is always one. Nothing beside the device is written.
+ *
+ * The caller sees to it that device points to memory for one, aligned as uint64_t is, and that nothing else reads or
+ * writes it during the call.
+ */
+void maststep_fresh(maststep_device *device);
+
+/*
+ * Gives the device one event: its kind, the clock reading (taken modulo 2^32) and the argument are those of an event of
+ * maststep_run, and so is the answer. Leaves the device as it is after that event. Nothing beside it is written. Given to
+ * a fresh device one by one, events are answered as maststep_run answers the row of them.
+ *
+ * Any content of the device is taken, and the call ends: what each number means is said at its field. On a content that no
+ * call has left, page sent may also be answered with MASTSTEP_SELECTOR (4), MASTSTEP_TIE (5) or MASTSTEP_WIDE (13).
+ *
+ * The functions below make this call for each kind of event, and are what most programs want.
+ *
+ * The caller sees to it that device points to a device, aligned as uint64_t is, and that nothing else reads or writes it
+ * during the call.
+ */
+uint64_t maststep_step(maststep_device *device, uint64_t kind, uint64_t clock, uint64_t argument);
+
+/*
+ * A transition on the line, at this reading. Answers MASTSTEP_PAGE with the word where it is the last one of a good page
+ * that is not refused; a refusal from 1 to 7, or 17, where it ends an attempt otherwise or the page is refused; else
+ * MASTSTEP_NOTHING. After 5, 6, 7 and 17 the device is in Break.
+ */
+static inline uint64_t maststep_edge(maststep_device *device, uint32_t reading)
+{
+    return maststep_step(device, MASTSTEP_EVENT_EDGE, reading, 0);
+}
+
+/*
+ * A look at the clock, with a random number of which the low five bits count. Answers MASTSTEP_ORDER with the word where
+ * a page is to be sent now, else MASTSTEP_NOTHING. Timers are looked at here and nowhere else. The reading must be no
+ * earlier than those of the events before: a time that is not there yet counts as one of some 4.29 s, after which every
+ * timer is out.
+ */
+static inline uint64_t maststep_tick(maststep_device *device, uint32_t reading, uint32_t draw)
+{
+    return maststep_step(device, MASTSTEP_EVENT_TICK, reading, draw);
+}
+
+/*
+ * The last transition of the page that was ordered is on the line. Answers MASTSTEP_SETTLED, MASTSTEP_NONE (8) or
+ * MASTSTEP_ROLES (9) where this page was the last that was due, MASTSTEP_TURN (11) where no page is out, else
+ * MASTSTEP_NOTHING.
+ */
+static inline uint64_t maststep_sent(maststep_device *device, uint32_t reading)
+{
+    return maststep_step(device, MASTSTEP_EVENT_SENT, reading, 0);
+}
+
+/* The link of the settled rate has gone down, where up is 0, or has come up. Answers MASTSTEP_NOTHING. */
+static inline uint64_t maststep_report(maststep_device *device, uint32_t reading, int up)
+{
+    return maststep_step(device, MASTSTEP_EVENT_REPORT, reading, up != 0);
+}
+
+/*
+ * The host reads a register: one of MASTSTEP_CONTROL (512) to MASTSTEP_HEARD_HIGH (525). Answers MASTSTEP_VALUE with its
+ * value, or MASTSTEP_REGISTER (10) to any other number. A read of MASTSTEP_STATUS changes it, as is said there.
+ */
+static inline uint64_t maststep_register_read(maststep_device *device, uint32_t reading, uint32_t number)
+{
+    return maststep_step(device, MASTSTEP_EVENT_READ, reading, number);
+}
+
+/*
+ * The host writes a register, of those that may be written. Answers MASTSTEP_NOTHING, also where it is one that is read
+ * only and nothing changes, or MASTSTEP_REGISTER (10) where there is none of that number.
+ */
+static inline uint64_t maststep_register_write(maststep_device *device, uint32_t reading, uint32_t number, uint16_t value)
+{
+    return maststep_step(device, MASTSTEP_EVENT_WRITE, reading, maststep_write_argument(number, value));
+}
 
 /*
  * Tells the messages of a run of heard Next Pages. A message is a message page, D13 one, with the unformatted pages,

@@ -11,7 +11,7 @@ from public_functions import exported
 from wrong_answers import of_repository
 
 # The folders of files that may be cited; every other name that begins with a folder begins with a crate.
-FOLDERS = ('.ci', 'bench', 'crates', 'docs', 'include', 'samples', 'second', 'tests', 'tools')
+FOLDERS = ('.ci', 'bench', 'crates', 'docs', 'examples', 'include', 'samples', 'second', 'tests', 'tools')
 
 
 def declared(source):

@@ -37,6 +37,7 @@ void begin(void)
     uint64_t answer, message[MASTSTEP_MESSAGE_CELLS];
     uint16_t state[MASTSTEP_STATE_ENTRIES] = {0}, parity[MASTSTEP_PARITY_SYMBOLS];
     const uint16_t symbol = 1;
+    maststep_device device;
     size_t next;
 
     same(1, maststep_check(UINT64_C(1) << 47), packed(0x84, 0x8005));
@@ -52,5 +53,7 @@ void begin(void)
     state[MASTSTEP_PARITY_SYMBOLS] = MASTSTEP_DATA_SYMBOLS;
     same(11, maststep_parity_finish(state, MASTSTEP_STATE_ENTRIES, parity, MASTSTEP_PARITY_SYMBOLS), packed(0x84, 44));
     same(12, parity[0], 208);
+    maststep_fresh(&device);
+    same(13, maststep_step(&device, MASTSTEP_EVENT_READ, 0, MASTSTEP_STATUS), packed(0x83, 8));
     leave(0);
 }

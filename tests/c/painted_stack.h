@@ -1,11 +1,14 @@
 /*
- * How deep the stack of each call is. header_test.c includes this where it is compiled with ON_PAINTED_STACK:
+ * How deep the stack of each call is. checks.h includes this where a test is compiled with ON_PAINTED_STACK:
  * from there on every call of the library is made on a stack of its own that has been painted, and the bytes
  * that have lost their paint tell how deep it went. A byte that a call sets aside and never writes is not seen,
- * unless one further down is written.
+ * unless one further down is written. The header's inline functions were compiled before and call the library as
+ * ever, so a test that is to be measured makes the calls that they make.
  */
 #ifndef PAINTED_STACK_H
 #define PAINTED_STACK_H
+
+#include <string.h>
 
 /* Any function, as C lets one be handed on. */
 typedef void (*function_of_any_kind)(void);
@@ -52,23 +55,45 @@ static size_t *deepest_of(function_of_any_kind function)
     return &deepest;
 }
 
-/* Not the same for all bytes, so that a call does not write them by chance. */
-static unsigned char paint(size_t place)
+/* The paint, as it is before a call. It is not the same for all bytes, so that a call does not write them by chance. */
+static const unsigned char *paint(void)
 {
-    return (unsigned char)(place * 37 + 11);
+    static unsigned char painted[STACK_BYTES];
+    size_t place;
+
+    if (painted[0] == 0)
+        for (place = 0; place < STACK_BYTES; place++) painted[place] = (unsigned char)(place * 37 + 11);
+    return painted;
+}
+
+/* Where the first row of bytes begins of which one has lost its paint: most rows have it, and are looked at as a whole. */
+static size_t first_row_spoilt(void)
+{
+    enum { ROW = 64 };
+    size_t place = 0;
+
+    while (place < STACK_BYTES && memcmp(painted_stack + place, paint() + place, ROW) == 0) place += ROW;
+    return place;
+}
+
+/* The place of the first byte that has lost its paint. */
+static size_t first_spoilt(void)
+{
+    size_t place = first_row_spoilt();
+
+    while (place < STACK_BYTES && painted_stack[place] == paint()[place]) place++;
+    return place;
 }
 
 static uint64_t on_painted_stack(function_of_any_kind function, uint64_t a, uint64_t b, uint64_t c, uint64_t d, uint64_t e, uint64_t f)
 {
     const struct painted_call call = {function, painted_stack + STACK_BYTES, {a, b, c, d, e, f}};
     size_t *most = deepest_of(function);
-    size_t place;
     uint64_t answer;
 
-    for (place = 0; place < STACK_BYTES; place++) painted_stack[place] = paint(place);
+    memcpy(painted_stack, paint(), STACK_BYTES);
     answer = call_on_stack(&call);
-    for (place = 0; place < STACK_BYTES && painted_stack[place] == paint(place); place++) continue;
-    if (*most < STACK_BYTES - place) *most = STACK_BYTES - place;
+    if (*most < STACK_BYTES - first_spoilt()) *most = STACK_BYTES - first_spoilt();
     return answer;
 }
 
@@ -84,6 +109,9 @@ static uint64_t on_painted_stack(function_of_any_kind function, uint64_t a, uint
     ON_STACK(maststep_read, ADDRESS(list), length, place, mode, ADDRESS(next), 0)
 #define maststep_run(events, cells, answers, room) \
     ON_STACK(maststep_run, ADDRESS(events), cells, ADDRESS(answers), room, 0, 0)
+#define maststep_fresh(device) ((void)ON_STACK(maststep_fresh, ADDRESS(device), 0, 0, 0, 0, 0))
+#define maststep_step(device, kind, clock, argument) \
+    ON_STACK(maststep_step, ADDRESS(device), kind, clock, argument, 0, 0)
 #define maststep_messages(pages, length, messages, room) \
     ON_STACK(maststep_messages, ADDRESS(pages), length, ADDRESS(messages), room, 0, 0)
 #define maststep_parity_take(state, entries, burst, length) \
