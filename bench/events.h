@@ -90,6 +90,18 @@ static void fill_reads(struct events *list)
     while (list->count < EVENTS) add(list, READ, 100, 515);
 }
 
+/* Writes of an advertised register, each of another value, which change nothing else before the next break. */
+static void fill_writes(struct events *list)
+{
+    while (list->count < EVENTS) add(list, WRITE, 100, UINT64_C(515) << 16 | list->count);
+}
+
+/* No page is out, so that each of these is refused. */
+static void fill_turns(struct events *list)
+{
+    while (list->count < EVENTS) add(list, SENT, 100, 0);
+}
+
 /* An event of any kind by chance, or the edges of a page; the partner's base page is given. */
 static void add_by_chance(struct events *list, uint64_t base, uint64_t chance)
 {
@@ -146,6 +158,24 @@ static void send_pages(struct events *list, uint64_t count)
         add(list, TICK, WAIT, OWN_NONCE);
         add(list, SENT, 1000, 0);
     }
+}
+
+/* A device that hears nothing: its page is ordered and sent again and again, two events each time. */
+static void fill_pages(struct events *list)
+{
+    send_pages(list, LASTING / 2);
+}
+
+/* A link that comes up and stays up: after the first report, which brings it up, all others find it so. */
+static void fill_reports(struct events *list)
+{
+    write_register(list, 515, 0x4080);
+    write_register(list, 512, 1 << 9 | 1 << 12);
+    add(list, TICK, BREAK, OWN_NONCE);
+    add_page(list, partner, 5000);
+    add_page(list, partner + ACK + OWN_NONCE * ECHO, 5000);
+    send_pages(list, 3);
+    while (list->count < EVENTS) add(list, REPORT, 1000, 1);
 }
 
 /* A tick by which the partner is just lost, or just not, between two reads of a register that is forgotten with it. */
@@ -227,20 +257,49 @@ static void fill_mixed(struct events *list, uint64_t seed)
     }
 }
 
+/*
+ * The lists that are measured, which is done on their later half. The last answer before it that says something shows how
+ * far the device has come, and is of the kind before. The answers in it are of the kinds one and other, and both are there.
+ */
+enum { HALF = PROLOGUE + LASTING / 2 };
+static const struct {
+    const char *name;
+    void (*fill)(struct events *);
+    unsigned before, one, other;
+} measured[] = {
+    {"tick", fill_ticks, MASTSTEP_NOTHING, MASTSTEP_NOTHING, MASTSTEP_NOTHING},
+    {"edge", fill_edges, MASTSTEP_PAGE, MASTSTEP_NOTHING, MASTSTEP_PAGE},
+    {"register", fill_reads, MASTSTEP_VALUE, MASTSTEP_VALUE, MASTSTEP_VALUE},
+    {"page", fill_pages, MASTSTEP_ORDER, MASTSTEP_ORDER, MASTSTEP_NOTHING},
+    {"turn", fill_turns, MASTSTEP_TURN, MASTSTEP_TURN, MASTSTEP_TURN},
+    {"report", fill_reports, MASTSTEP_SETTLED, MASTSTEP_NOTHING, MASTSTEP_NOTHING},
+    {"write", fill_writes, MASTSTEP_NOTHING, MASTSTEP_NOTHING, MASTSTEP_NOTHING},
+};
+enum { MEASURED = sizeof measured / sizeof measured[0] };
+
+/* The place of a measured list, or the number of these where it has another name. */
+static unsigned place_of(const char *name)
+{
+    unsigned list;
+
+    for (list = 0; list < MEASURED; list++) {
+        if (strcmp(name, measured[list].name) == 0) break;
+    }
+    return list;
+}
+
 /* Fills a list by its name; answers 0 where there is none of it. The seed is that of the mixed lists. */
 static int fill_events(uint64_t *cells, const char *name, uint64_t seed)
 {
     /* The clock rolls over soon after the break. */
     struct events list = {cells, 0, UINT32_MAX - BREAK - 100000};
+    unsigned place = place_of(name);
 
     write_register(&list, 512, 1 << 12);
     add(&list, TICK, BREAK, OWN_NONCE);
-    if (strcmp(name, "tick") == 0) fill_ticks(&list);
-    else if (strcmp(name, "edge") == 0) fill_edges(&list);
-    else if (strcmp(name, "register") == 0) fill_reads(&list);
+    if (place < MEASURED) measured[place].fill(&list);
     else if (strcmp(name, "mixed") == 0) fill_mixed(&list, seed);
-    else return 0;
-    return 1;
+    return list.count == EVENTS;
 }
 
 #endif

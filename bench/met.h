@@ -1,6 +1,7 @@
 /*
  * What the mixed lists meet, known by their events and the answers: each refusal of a device, and of Next Pages what
- * stands in names. A comparison that never met one of these would show less than it says.
+ * stands in names. A comparison that never met one of these would show less than it says. And whether a list that is
+ * measured is what it should be.
  */
 #ifndef BENCH_MET_H
 #define BENCH_MET_H
@@ -68,6 +69,39 @@ static void count_met(const uint64_t *events, const uint64_t *answers, size_t co
         met[answer_met(events + CELLS * i, answers + i, last)]++;
         if (kind != MASTSTEP_NOTHING && kind != MASTSTEP_VALUE) last = answers[i];
     }
+}
+
+/* The number of answers of a kind in the half of a list that is measured. */
+static size_t count_of(const uint64_t *answers, unsigned kind)
+{
+    size_t i, count = 0;
+
+    for (i = HALF; i < EVENTS; i++) count += maststep_kind(answers[i]) == kind;
+    return count;
+}
+
+/* The kind of the last answer before that half that says something. */
+static unsigned last_before(const uint64_t *answers)
+{
+    size_t i;
+
+    for (i = HALF; i > PROLOGUE; i--) {
+        if (maststep_kind(answers[i - 1]) != MASTSTEP_NOTHING) return maststep_kind(answers[i - 1]);
+    }
+    return MASTSTEP_NOTHING;
+}
+
+/* Whether a list that is measured gets the answers that its entry says. In another state it would measure something else. */
+static int is_as_meant(unsigned list, const uint64_t *answers)
+{
+    size_t one = count_of(answers, measured[list].one), other = count_of(answers, measured[list].other);
+    size_t all = measured[list].one == measured[list].other ? one : one + other;
+    unsigned last = last_before(answers);
+
+    if (last == measured[list].before && one > 0 && other > 0 && all == EVENTS - HALF) return 1;
+    printf("the list is not what it should be: an answer of kind %u, then %zu of kind %u and %zu of kind %u\n", last, one,
+           measured[list].one, other, measured[list].other);
+    return 0;
 }
 
 #endif

@@ -1,4 +1,7 @@
 //! The device in plain Rust: the negotiation of a port at low speed, its registers, and rate and role.
+//!
+//! It has two callers, the run and the step of a lent device. With two the compiler would lay the device into neither
+//! of them; so `run.rs` and `lent.rs` each have this file as a module of their own, and it is compiled twice.
 use crate::{Outcome, Reader, Refusal, LSM, ORDER, PAGE, SETTLED, VALUE};
 
 // The numbers of the timers, in ns.
@@ -227,7 +230,7 @@ impl Talk {
     }
 }
 
-struct Device {
+pub struct Device {
     state: State,
     advertised: [u16; 3],
     received: bool,
@@ -291,13 +294,21 @@ fn has_run(number: u32, start: u32, reading: u32) -> bool {
 }
 
 impl Device {
-    fn fresh() -> Device {
+    pub(crate) fn fresh() -> Device {
         Device {
             state: State::Off,
             advertised: [0; 3],
             received: false,
             fault: false,
             talk: Talk::new(0),
+        }
+    }
+
+    /// Takes an event as numbers. One of a kind that there is not changes nothing.
+    pub(crate) fn take(&mut self, kind: u64, clock: u64, argument: u64) -> u64 {
+        match Event::new(kind, argument) {
+            Some(event) => self.step(clock as u32, event).packed(),
+            None => 0,
         }
     }
 
@@ -331,7 +342,7 @@ impl Device {
         if !self.is_talking() || self.talk.is_out {
             return Answer::Nothing;
         }
-        let ended: Option<Outcome> = self.talk.reader.edge(&LSM, reading);
+        let ended: Option<Outcome> = self.talk.reader.edge::<true>(&LSM, reading);
         match ended {
             None => Answer::Nothing,
             Some(Ok(word)) => self.page(word, reading),
@@ -595,18 +606,4 @@ impl Device {
             self.enter(State::Break, reading);
         }
     }
-}
-
-/// A fresh device takes the events, three cells each, and each gets its answer; tells their number.
-pub(crate) fn run(events: &[u64], answers: &mut [u64]) -> Result<u64, Refusal> {
-    let count = events.len() / 3;
-    let answers = answers.get_mut(..count).ok_or(Refusal::Room)?;
-    let mut device = Device::fresh();
-    for (cells, answer) in events.chunks_exact(3).zip(answers) {
-        *answer = match Event::new(cells[0], cells[2]) {
-            Some(event) => device.step(cells[1] as u32, event).packed(),
-            None => 0,
-        };
-    }
-    Ok(count as u64)
 }

@@ -2,9 +2,10 @@
 //! bench to compare with. Safe Rust but for the C interface at the end.
 #![no_std]
 
-mod device;
+mod lent;
 mod messages;
 mod parity;
+mod run;
 
 /// The refusals, by the numbers of the scope and of its requests.
 #[derive(Clone, Copy)]
@@ -158,10 +159,15 @@ enum Gap {
 }
 
 impl Line {
+    /// Whether a gap counts as so many positions.
+    fn counts_as(&self, k: u32, gap: u32) -> bool {
+        let centre = k * self.spacing;
+        (centre - self.tolerance..=centre + self.tolerance).contains(&gap)
+    }
+
     fn judge(&self, gap: u32) -> Gap {
         for k in 1..5 {
-            let centre = k * self.spacing;
-            if (centre - self.tolerance..=centre + self.tolerance).contains(&gap) {
+            if self.counts_as(k, gap) {
                 return Gap::Positions(k);
             }
         }
@@ -203,23 +209,24 @@ impl Reader {
         matches!(self, Reader::Open { .. })
     }
 
-    /// Takes an edge; tells the outcome of the attempt that it ended, if it ended one. Both the walk over a
-    /// capture and the device call it, and by itself the compiler would lay it into neither.
+    /// Takes an edge; tells the outcome of the attempt that it ended, if it ended one. Of a further edge either the
+    /// position of the last one is asked for first or the gap: each is the faster one for some callers. They call it
+    /// at three places, and by itself the compiler would lay it into none.
     #[inline(always)]
-    fn edge(&mut self, line: &Line, reading: u32) -> Option<Outcome> {
+    fn edge<const POSITION_FIRST: bool>(&mut self, line: &Line, reading: u32) -> Option<Outcome> {
         match *self {
             Reader::Fresh => {
                 *self = Reader::opened(reading);
                 None
             }
-            Reader::Open { at, last, bits } => match line.judge(reading.wrapping_sub(last)) {
-                Gap::Positions(k) => self.step_on(line, at, k, bits, reading),
-                Gap::Quiet => {
-                    *self = Reader::opened(reading);
-                    Some(Err(Refusal::Cut))
+            Reader::Open { at, last, bits } => {
+                let gap = reading.wrapping_sub(last);
+                if POSITION_FIRST {
+                    self.on_by_position(line, at, gap, bits, reading)
+                } else {
+                    self.on_by_gap(line, at, gap, bits, reading)
                 }
-                Gap::Unfit => self.wrong(reading),
-            },
+            }
             Reader::Dropping { last } => {
                 *self = match line.judge(reading.wrapping_sub(last)) {
                     Gap::Quiet => Reader::opened(reading),
@@ -227,6 +234,34 @@ impl Reader {
                 };
                 None
             }
+        }
+    }
+
+    /// A further edge, first by where the last one stood: in the delimiter, at a bit, at a clock or at the end. Two
+    /// devices call it, so that it is marked as `edge` is.
+    #[inline(always)]
+    fn on_by_position(&mut self, line: &Line, at: u32, gap: u32, bits: u64, reading: u32) -> Option<Outcome> {
+        match at {
+            0..=26 => match line.judge(gap) {
+                Gap::Positions(k) if line.spans(at, k) => self.moved(at + k, bits, reading),
+                Gap::Quiet => self.cut(reading),
+                _ => self.wrong(reading),
+            },
+            27..=154 if at % 2 == 0 && line.counts_as(1, gap) => self.moved(at + 1, bits, reading),
+            27..=154 if at % 2 == 1 && line.counts_as(1, gap) => self.moved(at + 1, bits >> 1 | 1 << 63, reading),
+            27..=154 if at % 2 == 1 && line.counts_as(2, gap) => self.moved(at + 2, bits >> 1, reading),
+            155 if line.counts_as(2, gap) => self.whole(bits, reading),
+            _ if gap >= line.quiet => self.cut(reading),
+            _ => self.wrong(reading),
+        }
+    }
+
+    /// A further edge, first by its gap.
+    fn on_by_gap(&mut self, line: &Line, at: u32, gap: u32, bits: u64, reading: u32) -> Option<Outcome> {
+        match line.judge(gap) {
+            Gap::Positions(k) => self.step_on(line, at, k, bits, reading),
+            Gap::Quiet => self.cut(reading),
+            Gap::Unfit => self.wrong(reading),
         }
     }
 
@@ -252,6 +287,12 @@ impl Reader {
     fn moved(&mut self, at: u32, bits: u64, last: u32) -> Option<Outcome> {
         *self = Reader::Open { at, last, bits };
         None
+    }
+
+    /// A quiet gap before the edge at 157.
+    fn cut(&mut self, reading: u32) -> Option<Outcome> {
+        *self = Reader::opened(reading);
+        Some(Err(Refusal::Cut))
     }
 
     /// A gap that the pattern does not ask for.
@@ -282,7 +323,7 @@ fn read(capture: &[u32], place: usize, mode: u32) -> Result<(Option<Outcome>, us
     let ended = tail
         .iter()
         .enumerate()
-        .find_map(|(i, &reading)| Some((i, reader.edge(line, reading)?)));
+        .find_map(|(i, &reading)| Some((i, reader.edge::<false>(line, reading)?)));
     // The end of the capture counts as quiet.
     let (i, outcome) = match ended {
         Some(ended) => ended,
@@ -370,7 +411,25 @@ pub unsafe extern "C" fn plain_run(
 ) -> u64 {
     let events = core::slice::from_raw_parts(events, cells);
     let answers = core::slice::from_raw_parts_mut(answers, room);
-    packed(device::run(events, answers))
+    packed(run::run(events, answers))
+}
+
+/// As `maststep_fresh`.
+///
+/// # Safety
+/// `device` points to the memory of a device, of any content, that nothing else uses during the call.
+#[no_mangle]
+pub unsafe extern "C" fn plain_fresh(device: *mut lent::Device) {
+    device.write(lent::Device::fresh());
+}
+
+/// As `maststep_step`.
+///
+/// # Safety
+/// `device` points to a device that `plain_fresh` has made and that nothing else uses during the call.
+#[no_mangle]
+pub unsafe extern "C" fn plain_step(device: *mut lent::Device, kind: u64, clock: u64, argument: u64) -> u64 {
+    (*device).take(kind, clock, argument)
 }
 
 /// As `maststep_messages`, the messages told in one of two ways.
