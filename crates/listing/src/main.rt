@@ -39,11 +39,58 @@ fn list(input: &[u8], readings: &mut [u32], output: &mut [u8]) -> usize
     (answer.packed() % KIND) as usize
 }
 
-// Reads the input and writes its listing.
+// What came of standard input: how many bytes now stand at the head of the room, and whether the read
+// that was to bring the next ones failed.
+struct Taken {
+    count: usize,
+    failed: bool,
+}
+
+// Reads until the input ends, the room is full or a read fails. It asks the C library itself:
+// `io::read_full` answers the same at an end and at a failure, and one more read after it would not
+// tell the two apart, since a failure such as a connection's reset is told once and then looks like an
+// end. Behind a full room no read is made: such an input is refused whatever follows.
+fn take_input(room: &mut [u8]) -> Taken
+    ensures { λ r. ⌜ Counts (r .count) (now (room .exit)) ⌝ }
+{
+    let mut count = 0;
+    while count < room.len() {
+        let got = libc::read(STDIN_FILENO, &mut room[count..]);
+        if got < 0 {
+            return Taken {
+                count,
+                failed: true,
+            };
+        }
+        let more = io::count(got, &room[count..]);
+        if more == 0 {
+            return Taken {
+                count,
+                failed: false,
+            };
+        }
+        count += more;
+    }
+    Taken {
+        count,
+        failed: false,
+    }
+}
+
+// Reads the input and writes its listing. Where a read failed nothing is listed: the listing of a
+// part would look like that of a whole capture.
 fn serve(input: &mut [u8], readings: &mut [u32], output: &mut [u8])
     requires { ⌜ (8000 ≡ length (now readings)) × (184040 ≡ length (now output)) ⌝ }
 {
-    let got = io::read_full(STDIN_FILENO, input);
+    let taken = take_input(input);
+    if taken.failed {
+        io::write_all(
+            STDERR_FILENO,
+            b"listing: the input could not be read to its end, so nothing is listed\n",
+        );
+        return;
+    }
+    let got = taken.count;
     let count = list(&input[..got], readings, output);
     if io::write_all(STDOUT_FILENO, &output[..count]) {
         return;
