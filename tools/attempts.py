@@ -1,0 +1,166 @@
+"""The attempts of a capture as the proved program listing tells them, each with the edges that belong to it: what tools/list and tools/show stand on.
+
+By 01 an attempt opens at the first edge and at every edge that follows a quiet gap, wherever the reader is then. So the edges of a capture fall
+into stretches between quiet gaps, with one attempt each, and a long capture may be handed to the program in pieces that end at quiet gaps: the
+end of a piece counts as quiet. Of a stretch of more edges than any page has, the rest is dropped by every reader, and need not be handed over."""
+import array
+import functools
+import operator
+import os
+import pathlib
+import subprocess
+import sys
+from typing import NamedTuple
+
+from captures import NoCapture
+from line_modes import CLOCK, MOST_EDGES, MOST_READINGS
+
+TOOLS = pathlib.Path(__file__).resolve().parent
+REFUSED = b'refused '
+
+
+class Attempt(NamedTuple):
+    """An attempt: its number in the whole capture, how it ended (good, gap, cut or check), the word of a good page, and its stretch of edges,
+    from the one that opened it up to the one that opens the next."""
+    number: int
+    ending: str
+    word: int | None
+    first: int
+    behind: int
+
+
+class Listing(NamedTuple):
+    """A capture listed in a mode: the times of its edges, its attempts, and how many were good."""
+    mode: object
+    times: list
+    attempts: list
+    good: int
+
+    def text(self):
+        """01's text, the numbers going through over all pieces."""
+        lines = [attempt_text(attempt) for attempt in self.attempts]
+        return '\n'.join([self.first_line(), *lines, self.last_line(), ''])
+
+    def first_line(self):
+        return f'mode {self.mode.name} edges {len(self.times)}'
+
+    def last_line(self):
+        return f'pages {self.good} bad {len(self.attempts) - self.good}'
+
+
+class Refused(Exception):
+    """The program has refused a capture: the number and its line."""
+
+    def __init__(self, line):
+        super().__init__(line)
+        self.line, self.number = line, int(line[len(REFUSED):])
+
+
+def attempt_text(attempt):
+    """An attempt's line as 01 has it."""
+    return f'{attempt.number} good {attempt.word:012x}' if attempt.ending == 'good' else f'{attempt.number} {attempt.ending}'
+
+
+@functools.cache
+def command():
+    """The words that run the program, which is proved and built first if it is not there, and the environment for it."""
+    if subprocess.run([TOOLS / 'build', 'listing']).returncode != 0:
+        raise NoCapture('the program listing could not be built')
+    run = subprocess.run([TOOLS / 'run', '--command', TOOLS.parent / 'target/bin/listing'], stdout=subprocess.PIPE)
+    if run.returncode != 0:
+        raise NoCapture('the program listing cannot be run here')
+    # The emulator takes options from such variables, and one that is set by chance would change the run.
+    return run.stdout.split(b'\0')[:-1], {name: value for name, value in os.environ.items() if not name.startswith('QEMU_')}
+
+
+@functools.cache
+def files_of(_process):
+    """Three files in memory, for what the program is given, what it prints and what it complains of. Each process has its own."""
+    return tuple(os.memfd_create(name) for name in ('given', 'printed', 'complained'))
+
+
+def emptied(file):
+    os.ftruncate(file, 0)
+    os.lseek(file, 0, os.SEEK_SET)
+
+
+def content_from_start(file):
+    os.lseek(file, 0, os.SEEK_SET)
+    return os.read(file, 1 << 20)
+
+
+def printed_for(content):
+    """What the proved program prints for a capture in our own bytes."""
+    words, environment = command()
+    files = files_of(os.getpid())
+    for file in files:
+        emptied(file)
+    os.write(files[0], content)
+    os.lseek(files[0], 0, os.SEEK_SET)
+    actions = [(os.POSIX_SPAWN_DUP2, file, number) for number, file in enumerate(files)]
+    _, status = os.waitpid(os.posix_spawn(words[0], words, environment, file_actions=actions), 0)
+    printed, complained = map(content_from_start, files[1:])
+    if status or complained or not printed.endswith(b'\n'):
+        said = ' '.join(complained.decode(errors='replace').split())[:100]
+        raise NoCapture(f'the program listing failed (status {status}; it said: {said or "nothing"})')
+    if printed.startswith(REFUSED):
+        raise Refused(printed.decode().strip())
+    return printed.decode()
+
+
+def stretches(mode, times):
+    """The stretches of edges between quiet gaps: where each begins, and where the last one ends."""
+    quiet = mode.quiet
+    begins = [place for place, gap in enumerate(map(operator.sub, times[1:], times), 1) if gap >= quiet]
+    return [0, *begins, len(times)] if times else [0]
+
+
+def pieces(times, borders):
+    """The stretches gathered into pieces that the program takes, each a list of numbers of stretches. A stretch that is too long is a piece of
+    its own, and a gap that the clock cannot tell from a shorter one ends a piece."""
+    piece, count = [], 0
+    for number, (first, behind) in enumerate(zip(borders, borders[1:])):
+        is_far = piece and times[first] - times[first - 1] >= CLOCK
+        if piece and (is_far or count + behind - first > MOST_READINGS):
+            yield piece
+            piece, count = [], 0
+        piece.append(number)
+        count += behind - first
+    if piece:
+        yield piece
+
+
+def handed(times, borders, piece):
+    """The edges of a piece that are handed to the program."""
+    first, behind = borders[piece[0]], borders[piece[-1] + 1]
+    return times[first:behind] if behind - first <= MOST_READINGS else times[first:first + MOST_EDGES]
+
+
+def as_bytes(mode, times):
+    """A capture in our own bytes."""
+    readings = array.array('I', times if not times or times[-1] < CLOCK else [time % CLOCK for time in times])
+    if sys.byteorder == 'big':
+        readings.byteswap()
+    return bytes([mode.number]) + readings.tobytes()
+
+
+def endings(text, count):
+    """How each attempt of a listing ended, and its word."""
+    lines = text.split('\n')
+    if len(lines) != count + 3:
+        raise NoCapture(f'the program listing tells {len(lines) - 3} attempts where the capture has {count} stretches between quiet gaps')
+    for line in lines[1:-2]:
+        _, ending, *word = line.split(' ')
+        yield ending, int(word[0], 16) if word else None
+
+
+def listed(mode, times):
+    """A capture listed by the program, in as many pieces as it takes. With no edges there is still a listing."""
+    borders = stretches(mode, times)
+    attempts, good = [], 0
+    for piece in list(pieces(times, borders)) or [[]]:
+        text = printed_for(as_bytes(mode, handed(times, borders, piece) if piece else []))
+        for number, (ending, word) in zip(piece, endings(text, len(piece))):
+            attempts.append(Attempt(number + 1, ending, word, borders[number], borders[number + 1]))
+            good += ending == 'good'
+    return Listing(mode, times, attempts, good)

@@ -1,0 +1,61 @@
+"""How finely a capture was sampled, and whether that is fine enough for a mode.
+
+Of a gap between two samples the time comes out as a whole number of sample periods, the one below or the one above. A gap of a page must come
+out within its window, which is the tolerance to either side; so samples that stand no further apart than the tolerance are always fine
+enough for a head whose own clock is right. Some that are a little further apart are so too, since both neighbours of each gap happen to
+lie in its window."""
+import operator
+from fractions import Fraction
+
+# What an analyser commonly offers, the lowest that is fine enough, in MS/s.
+COMMON = {'HSM': 125, 'LSM': 5}
+# A head's clock is never quite right, so that a gap which is a whole number of samples may come out one shorter or longer.
+DRIFT = Fraction(1, 10_000)
+# A period told from time stamps alone is looked for among the first gaps.
+LOOKED_AT = 2000
+
+
+def is_coarse(mode, period):
+    """Whether gaps of a page can leave their windows by sampling alone."""
+    def fits(gap, count):
+        low, high = mode.window(count)
+        below = gap // period * period
+        return low <= below and -(-gap // period) * period <= high
+    return period > mode.tolerance and not all(fits(count * mode.spacing * (1 + drift), count) for count in range(1, 5) for drift in (-DRIFT, DRIFT))
+
+
+def rate_words(period):
+    """A period in ns as a rate."""
+    rate = 1000 / float(period)
+    return f'{rate:.4g} MS/s' if rate < 1000 else f'{rate / 1000:.4g} GS/s'
+
+
+def needed(mode):
+    """The rate that is always enough, in MS/s, rounded up to one digit behind the point."""
+    return -(-10_000 // mode.tolerance) / 10
+
+
+def coarse_words(mode, period):
+    return (f'too coarse for {mode.name}: a gap comes out up to {float(period):.3g} ns too short or too long, and a page allows {mode.tolerance} ns; '
+            f'it takes {needed(mode):g} MS/s or more ({COMMON[mode.name]} MS/s on most analysers)')
+
+
+def fitted(gaps, count):
+    """The period of which the shortest gap is a number of samples, if each gap is then a whole number of them but for rounding; else nothing."""
+    period = Fraction(min(gaps), count)
+    numbers = [round(gap / period) for gap in gaps]
+    period = Fraction(sum(map(operator.mul, numbers, gaps)), sum(number * number for number in numbers))
+    return period if all(abs(gap - number * period) <= 1 for gap, number in zip(gaps, numbers)) else None
+
+
+def guessed(mode, times):
+    """The period of the samples behind time stamps that do not tell it, or nothing where they stand on no grid as coarse as the tolerance.
+    Stamps on the mode's own spacing are those of a page without any jitter, as a program writes it."""
+    gaps = sorted({gap for gap in map(operator.sub, times[1:LOOKED_AT], times) if 0 < gap < mode.quiet})
+    if len(gaps) < 3:
+        return None
+    for count in range(1, 9):
+        period = fitted(gaps, count)
+        if period and period > mode.tolerance:
+            return None if abs(period - mode.spacing) < 1 else period
+    return None

@@ -1,0 +1,164 @@
+"""Value change dumps (VCD), as IEEE 1364 has them: captures that analysers and simulators write, and files that PulseView and GTKWave read."""
+import re
+from fractions import Fraction
+
+from captures import VCD, Capture, NoCapture, Wire, nanoseconds
+
+UNITS = {'s': Fraction(10 ** 9), 'ms': Fraction(10 ** 6), 'us': Fraction(1000), 'ns': Fraction(1), 'ps': Fraction(1, 1000), 'fs': Fraction(1, 10 ** 6)}
+# sigrok tells the rate of the samples in a comment.
+RATE = re.compile(r'at (\d+(?:\.\d+)?) ([kMG]?)Hz')
+PREFIXES = {'': 1, 'k': 1000, 'M': 10 ** 6, 'G': 10 ** 9}
+# What stands between these and $end is a value, not a text.
+DUMPS = ('$dumpvars', '$dumpall', '$dumpon', '$dumpoff')
+
+
+class Lines:
+    """The value of each bit of each variable over time: when it changed between 0 and 1, and how often it was neither."""
+
+    def __init__(self):
+        self.names, self.values, self.edges, self.unknown = {}, {}, {}, {}
+
+    def declare(self, code, width, name):
+        """A variable; a second one with the same code is the same line by another name."""
+        if code in self.names:
+            return
+        self.names[code] = [name] if width == 1 else [f'{name}[{width - 1 - place}]' for place in range(width)]
+        for place in range(width):
+            self.values[code, place], self.edges[code, place], self.unknown[code, place] = None, [], 0
+
+    def change(self, code, place, value, time):
+        """A bit has a value. An edge is a change between 0 and 1, also where x or z stood between; the first value is none."""
+        line = code, place
+        if value in 'xXzZ':
+            self.unknown[line] += 1
+            return
+        if self.values[line] not in (None, value):
+            self.edges[line].append(time)
+        self.values[line] = value
+
+    def wires(self):
+        return [Wire(name, self.edges[code, place], self.unknown[code, place])
+                for code, names in self.names.items() for place, name in enumerate(names)]
+
+
+def head_of(text, name):
+    """The words of the head and those of the body."""
+    head, _, rest = text.partition('$enddefinitions')
+    between, mark, body = rest.partition('$end')
+    if not mark or between.strip():
+        raise NoCapture(f'{name} ends, or goes astray, in the head of the VCD: it is cut or damaged')
+    return head.split(), body.split()
+
+
+def sections(words, name):
+    """The sections of a head: the keyword, and the words up to its $end."""
+    place = 0
+    while place < len(words):
+        keyword = words[place]
+        try:
+            end = words.index('$end', place)
+        except ValueError:
+            end = 0
+        if not keyword.startswith('$') or not end:
+            raise NoCapture(f'{name}: {ascii(keyword[:20])} in the head of the VCD belongs to nothing; the file is damaged')
+        yield keyword, words[place + 1:end]
+        place = end + 1
+
+
+def unit_of(words, name):
+    scale = re.fullmatch(r'(1|10|100)(s|ms|us|ns|ps|fs)', ''.join(words))
+    if not scale:
+        raise NoCapture(f'{name} has the timescale {ascii(" ".join(words)[:20])}, which is none of VCD, as 1 ns')
+    return int(scale[1]) * UNITS[scale[2]]
+
+
+def declared(words, scopes, lines, name):
+    """A $var: type, number of bits, code, and the name. Real numbers and strings are no lines."""
+    if len(words) < 4 or not re.fullmatch(r'[1-9]\d{0,3}', words[1]):
+        raise NoCapture(f'{name} declares a variable that is none of VCD: {ascii(" ".join(words)[:40])}')
+    kind, width, code, *reference = words
+    full = '.'.join([*scopes, ''.join(reference) if reference[-1].startswith('[') else ' '.join(reference)])
+    if kind not in ('real', 'realtime', 'string'):
+        lines.declare(code, int(width), full)
+    return code
+
+
+def read_head(words, name):
+    """The timescale, the lines, the codes that are no lines, and the period between samples if the head tells it."""
+    unit, lines, scopes, others, period = None, Lines(), [], set(), None
+    for keyword, inside in sections(words, name):
+        if keyword == '$timescale':
+            unit = unit_of(inside, name)
+        elif keyword == '$scope':
+            scopes.append(inside[-1] if inside else '')
+        elif keyword == '$upscope' and scopes:
+            scopes.pop()
+        elif keyword == '$var':
+            others.add(declared(inside, scopes, lines, name))
+        elif keyword == '$comment' and (rate := RATE.search(' '.join(inside))):
+            period = Fraction(10 ** 9) / (Fraction(rate[1]) * PREFIXES[rate[2]])
+    if unit is None:
+        raise NoCapture(f'{name} has no timescale, so that its times have no unit; a VCD says it, as $timescale 1 ns $end')
+    return unit, lines, others - set(lines.names), period
+
+
+def extended(digits, width):
+    """The values of a vector with all its bits: zeros go in front, but for x and z, which are repeated."""
+    first = digits[0] if digits[0] in 'xXzZ' else '0'
+    return digits.rjust(width, first)[-width:]
+
+
+def read_body(words, lines, others, unit, name):
+    """Goes through the changes of values. Gives the last time, or nothing where there is none."""
+    time, last, waiting, is_text = None, None, iter(words), False
+    for word in waiting:
+        if is_text:
+            is_text = word != '$end'
+        elif word[0] == '#':
+            last, time = time_of(word, last, name), None
+        elif word[0] == '$':
+            is_text = word not in (*DUMPS, '$end')
+        else:
+            if time is None:
+                time = nanoseconds(last or 0, unit.numerator, unit.denominator)
+            change(word, waiting, lines, others, time, name)
+    if is_text:
+        raise NoCapture(f'{name} ends inside a comment: it is cut, and nothing of it is listed')
+    return None if last is None else nanoseconds(last, unit.numerator, unit.denominator)
+
+
+def time_of(word, last, name):
+    if not re.fullmatch(r'#\d{1,30}', word):
+        raise NoCapture(f'{name}: {ascii(word[:20])} is no time; the file is damaged or cut')
+    if last is not None and int(word[1:]) < last:
+        raise NoCapture(f'{name}: the time goes back to {word}; the file is damaged')
+    return int(word[1:])
+
+
+def change(word, waiting, lines, others, time, name):
+    """One change: a value and a code in one word, or a vector or number and its code behind it."""
+    values, code = word[0], word[1:]
+    if values in 'bBrRsS':
+        values, code = word[1:] or ' ', next(waiting, '')
+    if code in lines.names and re.fullmatch('[01xXzZ]+', values):
+        for place, value in enumerate(extended(values, len(lines.names[code]))):
+            lines.change(code, place, value, time)
+    elif code not in others or not code:
+        raise NoCapture(f'{name}: {ascii(word[:20])} is no change of a value of any wire; the file is damaged or cut')
+
+
+def capture(text, name):
+    """The wires of a VCD."""
+    head, body = head_of(text, name)
+    unit, lines, others, period = read_head(head, name)
+    end = read_body(body, lines, others, unit, name)
+    if end is None:
+        raise NoCapture(f'{name} has a head but no times: it is cut, or nothing was recorded')
+    return Capture(VCD, lines.wires(), period=period, end=end)
+
+
+def written(edges, end, label='line'):
+    """A VCD with one wire, in ns: zero first, a change at each edge, which must be later than 0, and the end."""
+    head = f'$version Maststep $end\n$timescale 1 ns $end\n$scope module maststep $end\n$var wire 1 ! {label} $end\n$upscope $end\n$enddefinitions $end\n'
+    changes = ''.join(f'#{time}\n{number % 2}!\n' for number, time in enumerate(edges, 1))
+    return f'{head}#0\n0!\n{changes}#{end}\n'
