@@ -157,8 +157,8 @@ def capture(text, name):
     return Capture(VCD, lines.wires(), period=period, end=end)
 
 
-def written(edges, end, label='line'):
-    """A VCD with one wire, in ns: zero first, a change at each edge, which must be later than 0, and the end."""
+def written(times, quiet, label='line'):
+    """A VCD with one wire, in ns. It begins and ends with a quiet line: each edge stands so much later than it was, and the end behind the last."""
     head = f'$version Maststep $end\n$timescale 1 ns $end\n$scope module maststep $end\n$var wire 1 ! {label} $end\n$upscope $end\n$enddefinitions $end\n'
-    changes = ''.join(f'#{time}\n{number % 2}!\n' for number, time in enumerate(edges, 1))
-    return f'{head}#0\n0!\n{changes}#{end}\n'
+    changes = ''.join(f'#{time + quiet}\n{number % 2}!\n' for number, time in enumerate(times, 1))
+    return f'{head}#0\n0!\n{changes}#{times[-1] + 2 * quiet}\n'
