@@ -98,10 +98,11 @@ def form_of(content):
 
 def unrolled(readings):
     """The clock's readings as times that do not roll over; each is the reading modulo 2^32."""
-    gaps = list(map(operator.sub, readings[1:], readings))
-    if not gaps or min(gaps) >= 0:
+    # Mostly nothing rolls over, and a list in order is sorted at a glance.
+    if readings == sorted(readings):
         return readings
-    return list(itertools.accumulate((gap % CLOCK for gap in gaps), initial=readings[0]))
+    gaps = ((after - before) % CLOCK for before, after in zip(readings, readings[1:]))
+    return list(itertools.accumulate(gaps, initial=readings[0]))
 
 
 def readings_of(content):

@@ -7,8 +7,8 @@ lie in its window."""
 import operator
 from fractions import Fraction
 
-# What an analyser commonly offers, the lowest that is fine enough, in MS/s.
-COMMON = {'HSM': 125, 'LSM': 5}
+# The lowest rates that analysers commonly offer and that are enough.
+COMMON = {'HSM': '125 MS/s is common', 'LSM': '5, 6 and 8 MS/s are common'}
 # A head's clock is never quite right, so that a gap which is a whole number of samples may come out one shorter or longer.
 DRIFT = Fraction(1, 10_000)
 # A period told from time stamps alone is looked for among the first gaps.
@@ -37,7 +37,7 @@ def needed(mode):
 
 def coarse_words(mode, period):
     return (f'too coarse for {mode.name}: a gap comes out up to {float(period):.3g} ns too short or too long, and a page allows {mode.tolerance} ns; '
-            f'it takes {needed(mode):g} MS/s or more ({COMMON[mode.name]} MS/s on most analysers)')
+            f'it takes {needed(mode):g} MS/s or more ({COMMON[mode.name]})')
 
 
 def fitted(gaps, count):
