@@ -5,6 +5,7 @@ into stretches between quiet gaps, with one attempt each, and a long capture may
 end of a piece counts as quiet. Of a stretch of more edges than any page has, the rest is dropped by every reader, and need not be handed over."""
 import array
 import functools
+import itertools
 import operator
 import os
 import pathlib
@@ -115,13 +116,11 @@ def stretches(mode, times):
     return [0, *begins, len(times)] if times else [0]
 
 
-def pieces(times, borders):
-    """The stretches gathered into pieces that the program takes, each a list of numbers of stretches. A stretch that is too long is a piece of
-    its own, and a gap that the clock cannot tell from a shorter one ends a piece."""
+def pieces(borders):
+    """The stretches gathered into pieces that the program takes, each a list of numbers of stretches. One that is too long is a piece of its own."""
     piece, count = [], 0
     for number, (first, behind) in enumerate(zip(borders, borders[1:])):
-        is_far = piece and times[first] - times[first - 1] >= CLOCK
-        if piece and (is_far or count + behind - first > MOST_READINGS):
+        if piece and count + behind - first > MOST_READINGS:
             yield piece
             piece, count = [], 0
         piece.append(number)
@@ -131,9 +130,13 @@ def pieces(times, borders):
 
 
 def handed(times, borders, piece):
-    """The edges of a piece that are handed to the program."""
+    """The edges of a piece that are handed to the program. A gap that the clock could not tell from a shorter one is shortened, and stays quiet."""
     first, behind = borders[piece[0]], borders[piece[-1] + 1]
-    return times[first:behind] if behind - first <= MOST_READINGS else times[first:first + MOST_EDGES]
+    edges = times[first:behind] if behind - first <= MOST_READINGS else times[first:first + MOST_EDGES]
+    if edges[-1] - edges[0] < CLOCK:
+        return edges
+    gaps = (min(after - before, CLOCK - 1) for before, after in zip(edges, edges[1:]))
+    return list(itertools.accumulate(gaps, initial=edges[0]))
 
 
 def as_bytes(mode, times):
@@ -158,7 +161,7 @@ def listed(mode, times):
     """A capture listed by the program, in as many pieces as it takes. With no edges there is still a listing."""
     borders = stretches(mode, times)
     attempts, good = [], 0
-    for piece in list(pieces(times, borders)) or [[]]:
+    for piece in list(pieces(borders)) or [[]]:
         text = printed_for(as_bytes(mode, handed(times, borders, piece) if piece else []))
         for number, (ending, word) in zip(piece, endings(text, len(piece))):
             attempts.append(Attempt(number + 1, ending, word, borders[number], borders[number + 1]))

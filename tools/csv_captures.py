@@ -4,7 +4,7 @@ import re
 from fractions import Fraction
 from typing import NamedTuple
 
-from captures import CSV, Capture, NoCapture, Wire, nanoseconds
+from captures import CSV, KNOWN, Capture, NoCapture, Wire, nanoseconds
 from vcd_captures import PREFIXES
 
 UNITS = {'seconds': Fraction(10 ** 9), 'milliseconds': Fraction(10 ** 6), 'microseconds': Fraction(1000), 'nanoseconds': Fraction(1),
@@ -15,6 +15,8 @@ CHANNELS = re.compile(r'Channels \(\d+/\d+\): (.*)')
 GIVEN_RATE = re.compile(r'(\d+(?:\.\d+)?) ?([kMG]?)(?:[Hh]z|S/s)?')
 TIME = re.compile(r'time ?(?:[\[(](\w+)[\])])?', re.IGNORECASE)
 NUMBER = re.compile(r'[-+]?(?:\d+\.?\d*|\.\d+)(?:[eE][-+]?\d{1,3})?')
+# How many rows show what the columns of a file are.
+LOOKED_AT = 2000
 VALUES = {'0': 0, '1': 1, 'x': None, 'X': None, 'z': None, 'Z': None}
 
 
@@ -44,6 +46,8 @@ def table_of(text, name):
     if not rows:
         raise NoCapture(f'{name} has no rows: it is cut, or no capture')
     separator = next((mark for mark in (',', '\t', ';') if mark in rows[0][1]), ',')
+    if not any(cell in VALUES for _, line in rows[:LOOKED_AT] for cell in cells(line, separator)):
+        raise NoCapture(f'{name} is text, but neither a VCD nor a CSV with values 0 and 1; {KNOWN}')
     first = cells(rows[0][1], separator)
     is_named = not all(NUMBER.fullmatch(cell) for cell in first)
     return Table(comments, first if is_named else [], rows[is_named:], separator)
@@ -91,7 +95,7 @@ def clock_of(table, rate, name):
     has_time = is_time(first)
     is_count = bool(re.fullmatch(r'samples?(?: number)?|index', first, re.IGNORECASE))
     if not table.names:
-        has_time = any(cells(line, table.separator)[0] not in VALUES for _, line in table.rows[:2000])
+        has_time = any(cells(line, table.separator)[0] not in VALUES for _, line in table.rows[:LOOKED_AT])
     if not has_time and not period:
         raise NoCapture(f'{name} has samples and does not say their rate; give it, as --rate 24M')
     unit = UNITS[(TIME.fullmatch(first)[1] or 's').lower()] if TIME.fullmatch(first) else UNITS.get(first.lower())
