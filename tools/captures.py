@@ -1,6 +1,7 @@
 """Captures as analysers and this project write them: our own bytes, VCD, sigrok's session files and CSV. What each has is told as wires with
 the times of their edges; which it is, is known by its content. For tools/list and tools/show."""
 import array
+import codecs
 import itertools
 import operator
 import sys
@@ -90,10 +91,11 @@ def form_of(content):
         return SESSION
     if content[:1] in (b'', b'\0', b'\1'):
         return BYTES
-    head = content[:4096].removeprefix(b'\xef\xbb\xbf')
-    if any(byte < 32 and byte not in b'\t\n\r' or byte == 127 for byte in head):
+    # A letter of several bytes may stand across the end of the part that is looked at.
+    head = codecs.getincrementaldecoder('utf-8-sig')('replace').decode(content[:4096]).lstrip()
+    if '\ufffd' in head or any(letter < ' ' and letter not in '\t\n\r' for letter in head):
         return None
-    return VCD if head.lstrip()[:1] == b'$' else CSV
+    return VCD if head[:1] == '$' else CSV
 
 
 def unrolled(readings):
