@@ -26,7 +26,7 @@ def noted(words):
 @functools.cache
 def vectors():
     """The parts of parity_vectors.txt: each heading with the symbols below it."""
-    parts = {}
+    parts, heading = {}, ''
     for line in (HERE / 'parity_vectors.txt').read_text().splitlines():
         if line.startswith(' '):
             parts[heading] += noted(line)
