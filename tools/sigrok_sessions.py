@@ -45,7 +45,7 @@ def as_vcd(content, name):
     """What sigrok-cli makes of a session."""
     program = shutil.which('sigrok-cli')
     if not program:
-        raise NoCapture(f'{name} is a sigrok session, and sigrok-cli, which reads it, is not installed: tools/install sigrok does it, as root')
+        raise NoCapture(f'{name} is a sigrok session, and sigrok-cli, which reads it, is not installed: tools/install captures does it, as root')
     with tempfile.NamedTemporaryFile(suffix='.sr') as copy:
         copy.write(content)
         copy.flush()
