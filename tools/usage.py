@@ -1,7 +1,8 @@
-"""What a tool says of itself, its help and its usage: what the tools in Python share. Those in bash have tools/help.sh.
+"""What a tool says of itself, its help and its usage, and how it ends: what the tools in Python share. Those in bash have tools/help.sh.
 
 The docstring of a tool is its help: a sentence on what it is for; an indented paragraph with its calls, the usage; and what else a user
 has to know."""
+import os
 import signal
 import sys
 
@@ -33,3 +34,20 @@ def option(document, *known):
     if len(arguments) > 1 or not set(arguments) <= set(known):
         misused(document, f'it takes {" or ".join(known)}, or nothing' if known else 'it takes no arguments')
     return arguments[0] if arguments else ''
+
+
+def end_with(main, tool):
+    """Does what a tool is for, and ends with its exit status; or with 1 and a line that says why, where its output could not be written."""
+    # A reader that has seen enough, as head, may close the pipe.
+    signal.signal(signal.SIGPIPE, signal.SIG_DFL)
+    try:
+        if sys.stdout is None:
+            raise OSError(0, 'it is closed')
+        status = main()
+        sys.stdout.flush()
+    except OSError as fault:
+        if sys.stderr is not None:
+            print(f'{tool}: standard output could not be written: {fault.strerror}', file=sys.stderr, flush=True)
+        # Python would complain once more when it closes the output.
+        os._exit(1)
+    sys.exit(status)
