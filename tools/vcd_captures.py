@@ -8,6 +8,9 @@ UNITS = {'s': Fraction(10 ** 9), 'ms': Fraction(10 ** 6), 'us': Fraction(1000), 
 # sigrok tells the rate of the samples in a comment.
 RATE = re.compile(r'at (\d+(?:\.\d+)?) ([kMG]?)Hz')
 PREFIXES = {'': 1, 'k': 1000, 'M': 10 ** 6, 'G': 10 ** 9}
+# The values that are known; simulators write weak ones too. All others, x and z among them, are not.
+KNOWN_VALUES = {'0': 0, '1': 1, 'l': 0, 'L': 0, 'h': 1, 'H': 1}
+VALUES = re.compile('[01xXzZlLhHuUwW-]+')
 # What stands between these and $end is a value, not a text.
 DUMPS = ('$dumpvars', '$dumpall', '$dumpon', '$dumpoff')
 
@@ -28,13 +31,13 @@ class Lines:
 
     def change(self, code, place, value, time):
         """A bit has a value. An edge is a change between 0 and 1, also where x or z stood between; the first value is none."""
-        line = code, place
-        if value in 'xXzZ':
+        line, known = (code, place), KNOWN_VALUES.get(value)
+        if known is None:
             self.unknown[line] += 1
             return
-        if self.values[line] not in (None, value):
+        if self.values[line] not in (None, known):
             self.edges[line].append(time)
-        self.values[line] = value
+        self.values[line] = known
 
     def wires(self):
         return [Wire(name, self.edges[code, place], self.unknown[code, place])
@@ -77,7 +80,9 @@ def declared(words, scopes, lines, name):
     if len(words) < 4 or not re.fullmatch(r'[1-9]\d{0,3}', words[1]):
         raise NoCapture(f'{name} declares a variable that is none of VCD: {ascii(" ".join(words)[:40])}')
     kind, width, code, *reference = words
-    full = '.'.join([*scopes, ''.join(reference) if reference[-1].startswith('[') else ' '.join(reference)])
+    # Behind a name may stand its bit, or the range of its bits, which are numbered here anyway.
+    bits = reference.pop() if len(reference) > 1 and reference[-1].startswith('[') else ''
+    full = '.'.join([*scopes, ' '.join(reference) + ('' if ':' in bits else bits)])
     if kind not in ('real', 'realtime', 'string'):
         lines.declare(code, int(width), full)
     return code
@@ -103,8 +108,8 @@ def read_head(words, name):
 
 
 def extended(digits, width):
-    """The values of a vector with all its bits: zeros go in front, but for x and z, which are repeated."""
-    first = digits[0] if digits[0] in 'xXzZ' else '0'
+    """The values of a vector with all its bits: zeros go in front, but a value that is not known is repeated."""
+    first = '0' if digits[0] in KNOWN_VALUES else digits[0]
     return digits.rjust(width, first)[-width:]
 
 
@@ -140,7 +145,7 @@ def change(word, waiting, lines, others, time, name):
     values, code = word[0], word[1:]
     if values in 'bBrRsS':
         values, code = word[1:] or ' ', next(waiting, '')
-    if code in lines.names and re.fullmatch('[01xXzZ]+', values):
+    if code in lines.names and VALUES.fullmatch(values):
         for place, value in enumerate(extended(values, len(lines.names[code]))):
             lines.change(code, place, value, time)
     elif code not in others or not code:
