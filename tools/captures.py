@@ -149,7 +149,7 @@ def chosen(capture, wanted, name):
         found = [wire for wire in wires if wire.name == wanted] or [wire for wire in wires if wire.name.rpartition('.')[2] == wanted]
         if len(found) == 1:
             return found[0]
-        raise NoCapture(f'{name} has {len(found) or "no"} wire{"s" * (len(found) != 1)} {ascii(wanted)}; {named(wires)}')
+        raise NoCapture(f'{name} has {amount(len(found), "wire")} {ascii(wanted)}; {named(wires)}')
     if not wires:
         raise NoCapture(f'{name} has no wire with values 0 and 1')
     moving = [wire for wire in wires if wire.edges]
@@ -158,13 +158,18 @@ def chosen(capture, wanted, name):
     return (moving or wires)[0]
 
 
+def amount(count, thing):
+    """A number of things in words."""
+    return f'{count or "no"} {thing}{"s" * (count > 1)}'
+
+
 def shown(name):
     return name if name and name.isprintable() and ' ' not in name else repr(name)
 
 
 def named(wires):
     """The wires of a capture with their numbers of edges, the first ones where there are many."""
-    names = [f'{shown(wire.name)} ({len(wire.edges)} edges)' for wire in wires[:8]]
+    names = [f'{shown(wire.name)} ({amount(len(wire.edges), "edge")})' for wire in wires[:8]]
     return 'it has ' + (', '.join(names) + (', ..' if len(wires) > 8 else '') if names else 'none')
 
 

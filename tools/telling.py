@@ -1,7 +1,7 @@
 """What a person is told of an attempt beyond 01's line: when it began, what its page says, where and how it failed, what was dropped behind it."""
 from typing import NamedTuple
 
-from captures import NoCapture
+from captures import NoCapture, amount
 from line_modes import END, FIRST_CLOCK, POSITIONS, WORD_BITS, CHECK_BITS, check_bits, edges_of, read_bits, walked
 from page_fields import Kinds, words_of
 
@@ -35,10 +35,10 @@ def gap_words(mode, walk):
     """The edge, the gap, and the nearest window."""
     missed, count, low, high = nearest_window(mode, walk.wanted, walk.missed)
     step = mode.positions(walk.missed)
-    found = f'{step} position{"s" * (step > 1)}' if step else 'no whole number of positions'
+    found = amount(step, 'position') if step else 'no whole number of positions'
     way = 'long' if walk.missed > high else 'short'
     return (f'edge {len(walk.at) + 1}, {place_words(walk.at[-1] + 1)}: it came {walk.missed} ns after the one before, which is {found}; the nearest window '
-            f'that fits a page there is {low}-{high} ns ({count} position{"s" * (count > 1)}), so it is {missed} ns too {way}')
+            f'that fits a page there is {low}-{high} ns ({amount(count, "position")}), so it is {missed} ns too {way}')
 
 
 def cut_words(listing, attempt, walk, end):
@@ -47,11 +47,11 @@ def cut_words(listing, attempt, walk, end):
     if attempt.behind < len(listing.times):
         quiet = f'then the line was quiet for {time_words(listing.times[attempt.behind] - last)}'
     elif end is not None and end > last:
-        quiet = f'then the line was quiet for {time_words(end - last)}, up to the end of the capture'
+        quiet = f'then no edge came for {time_words(end - last)}, up to the end of the capture'
     else:
         quiet = 'where the capture ends'
     edges = attempt.behind - attempt.first
-    return f'came to position {walk.at[-1]} of {POSITIONS}, {place_words(walk.at[-1])}, with {edges} edge{"s" * (edges != 1)}, {quiet}'
+    return f'came to position {walk.at[-1]} of {POSITIONS}, {place_words(walk.at[-1])}, with {amount(edges, "edge")}, {quiet}'
 
 
 def single_change(word, check):
