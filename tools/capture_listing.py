@@ -1,0 +1,141 @@
+"""A capture taken and listed as the options of a call say: which wire of it, in which mode, with what notes, and what a refusal means. What
+tools/list and tools/show share, so that both take the same captures with the same words."""
+import argparse
+from typing import NamedTuple
+
+import attempts
+import sampling
+from attempts import Listing, listed, printed_for
+from captures import BYTES, FORMS, KNOWN, Capture, NoCapture, Wire, capture_of, chosen, form_of, looks_like_samples
+from csv_captures import rate_of
+from line_modes import BY_NAME, HSM, LSM, MODES, MOST_READINGS, other
+
+
+class Listed(NamedTuple):
+    """A capture, the wire of it that was listed, its listing, and the time from which all others count."""
+    capture: Capture
+    wire: Wire
+    listing: Listing
+    origin: int
+
+
+def pages(count):
+    return 'no page' if not count else f'{count} page{"s" * (count != 1)}'
+
+
+def fitting(mode, times):
+    return sum(1 for before, after in zip(times, times[1:]) if mode.positions(after - before))
+
+
+def tried_both(times, notes):
+    """The listing in the mode that reads more pages, or that fits more of the gaps where neither reads any."""
+    listings = {mode: listed(mode, times) for mode in MODES}
+    high, low = (listings[mode] for mode in (HSM, LSM))
+    if high.good or low.good:
+        best = high if high.good >= low.good else low
+        notes.append(f'both modes were tried: HSM reads {pages(high.good)}, LSM {pages(low.good)}; listed as {best.mode.name}')
+        return best
+    best = high if fitting(HSM, times) > fitting(LSM, times) else low
+    notes.append(f'both modes were tried, and neither reads a page; listed as {best.mode.name}, whose windows fit '
+                 f'{fitting(best.mode, times)} of {max(len(times) - 1, 0)} gaps (--mode {other(best.mode).name} lists it the other way)')
+    return best
+
+
+def listed_as_said(mode, times, notes):
+    """The listing in the mode that the capture's first byte says. Where that reads no page and the other mode does, it is said."""
+    listing = listed(mode, times)
+    if times and not listing.good:
+        count = listed(other(mode), times).good
+        if count:
+            notes.append(f'no page is read as {mode.name}, as its first byte says, and {pages(count)} as {other(mode).name}: --mode {other(mode).name}')
+    return listing
+
+
+def listing_of(capture, wire, options, notes):
+    if options.mode:
+        return listed(BY_NAME[options.mode], wire.edges)
+    if capture.mode is not None:
+        return listed_as_said(MODES[capture.mode], wire.edges, notes)
+    return tried_both(wire.edges, notes)
+
+
+def sampling_notes(capture, listing):
+    """A warning where the samples are too coarse for the mode. A rate that is only guessed from the time stamps counts where not all is well."""
+    mode = listing.mode
+    if capture.period:
+        if sampling.is_coarse(mode, capture.period):
+            yield f'sampled at {sampling.rate_words(capture.period)}, {sampling.coarse_words(mode, capture.period)}'
+    elif capture.form != BYTES and listing.good < len(listing.attempts):
+        period = sampling.guessed(mode, listing.times)
+        if period and sampling.is_coarse(mode, period):
+            yield f'its times look like samples at {sampling.rate_words(period)}; if they are, that is {sampling.coarse_words(mode, period)}'
+
+
+def refusal_words(number, name, content):
+    """What a refusal of the program means, and what to do."""
+    if number == 12:
+        return f'{name} has more than {MOST_READINGS} readings; without --whole it is listed in pieces'
+    if number == 15:
+        rest = (len(content) - 1) % 4
+        return f'{name}: behind the mode byte stand readings of four bytes, and {rest} byte{"s" * (rest > 1)} too many: it is cut or damaged, or no capture'
+    if not content:
+        return f'{name} is empty: not even a mode byte; record or export it anew'
+    return f'{name} begins with the byte {content[0]}, which is no mode (0 HSM, 1 LSM), and is nothing else that is known; {KNOWN}'
+
+
+def judged_bytes(content, options):
+    """Our own bytes with the mode that is asked for. The program refuses those that it does not take, but for their length, as they are split."""
+    if options.mode and content:
+        content = bytes([BY_NAME[options.mode].number]) + content[1:]
+    if not content or content[0] >= len(MODES) or len(content) % 4 != 1 or options.whole:
+        printed_for(content if options.whole or len(content) <= 5 else content[:5 + (len(content) - 1) % 4])
+    return content
+
+
+def check_whole(times):
+    """Has the program refuse what it does not take in one piece."""
+    if len(times) > MOST_READINGS:
+        printed_for(attempts.as_bytes(HSM, times[:MOST_READINGS + 1]))
+
+
+def taken(content, name, options):
+    """The capture, and the wire of it that is listed."""
+    form = FORMS[options.format] if options.format else form_of(content) or BYTES
+    capture = capture_of(judged_bytes(content, options) if form == BYTES else content, name, form, options.rate)
+    wire = chosen(capture, options.wire, name)
+    if form == BYTES and options.format is None and looks_like_samples(wire.edges):
+        raise NoCapture(f'{name} begins with the byte {content[0]}, as our bytes do, but the readings behind it are no clock\'s: raw samples, it seems. '
+                        'Export them as VCD or CSV, or as a session: sigrok-cli -I binary:numchannels=8:samplerate=RATE -i FILE -o FILE.sr')
+    if options.whole:
+        check_whole(wire.edges)
+    return capture, wire
+
+
+def listed_capture(name, content, options, notes):
+    """The listing of a capture with all that belongs to it. What a person should know besides is added to the notes."""
+    capture, wire = taken(content, name, options)
+    listing = listing_of(capture, wire, options, notes)
+    if wire.unknown:
+        notes.append(f'the wire was neither 0 nor 1 (x or z) {wire.unknown} times; an edge counts where the next known value is another than the last')
+    notes += sampling_notes(capture, listing)
+    return Listed(capture, wire, listing, wire.edges[0] if capture.form == BYTES and wire.edges else 0)
+
+
+def name_in_words(name):
+    """A capture's name as messages have it."""
+    return 'standard input' if name == '-' else name
+
+
+def rate(text):
+    found = rate_of(text)
+    if found is None:
+        raise argparse.ArgumentTypeError(f'{text!r} is no rate, as 24M, 24000000 or "24 MHz"')
+    return found
+
+
+def add_input_options(parser):
+    """The options by which a call says what the capture is."""
+    parser.add_argument('--mode', type=str.upper, choices=sorted(BY_NAME))
+    parser.add_argument('--wire')
+    parser.add_argument('--rate', type=rate)
+    parser.add_argument('--format', type=str.lower, choices=sorted(FORMS))
