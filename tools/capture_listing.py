@@ -6,7 +6,7 @@ from typing import NamedTuple
 import attempts
 import sampling
 from attempts import Listing, listed, printed_for
-from captures import BYTES, FORMS, KNOWN, Capture, NoCapture, Wire, capture_of, chosen, form_of, looks_like_samples
+from captures import BYTES, FORMS, KNOWN, Capture, NoCapture, Wire, amount, capture_of, chosen, form_of, looks_like_samples
 from csv_captures import rate_of
 from line_modes import BY_NAME, HSM, LSM, MODES, MOST_READINGS, other
 
@@ -19,10 +19,6 @@ class Listed(NamedTuple):
     origin: int
 
 
-def pages(count):
-    return 'no page' if not count else f'{count} page{"s" * (count != 1)}'
-
-
 def fitting(mode, times):
     return sum(1 for before, after in zip(times, times[1:]) if mode.positions(after - before))
 
@@ -33,7 +29,7 @@ def tried_both(times, notes):
     high, low = (listings[mode] for mode in (HSM, LSM))
     if high.good or low.good:
         best = high if high.good >= low.good else low
-        notes.append(f'both modes were tried: HSM reads {pages(high.good)}, LSM {pages(low.good)}; listed as {best.mode.name}')
+        notes.append(f'both modes were tried: HSM reads {amount(high.good, "page")}, LSM {amount(low.good, "page")}; listed as {best.mode.name}')
         return best
     best = high if fitting(HSM, times) > fitting(LSM, times) else low
     notes.append(f'both modes were tried, and neither reads a page; listed as {best.mode.name}, whose windows fit '
@@ -47,7 +43,7 @@ def listed_as_said(mode, times, notes):
     if times and not listing.good:
         count = listed(other(mode), times).good
         if count:
-            notes.append(f'no page is read as {mode.name}, as its first byte says, and {pages(count)} as {other(mode).name}: --mode {other(mode).name}')
+            notes.append(f'no page is read as {mode.name}, as its first byte says, and {amount(count, "page")} as {other(mode).name}: --mode {other(mode).name}')
     return listing
 
 
@@ -77,19 +73,19 @@ def refusal_words(number, name, content):
         return f'{name} has more than {MOST_READINGS} readings; without --whole it is listed in pieces'
     if number == 15:
         rest = (len(content) - 1) % 4
-        return f'{name}: behind the mode byte stand readings of four bytes, and {rest} byte{"s" * (rest > 1)} too many: it is cut or damaged, or no capture'
+        return f'{name}: behind the mode byte stand readings of four bytes, and {amount(rest, "byte")} too many: it is cut or damaged, or no capture'
     if not content:
         return f'{name} is empty: not even a mode byte; record or export it anew'
     return f'{name} begins with the byte {content[0]}, which is no mode (0 HSM, 1 LSM), and is nothing else that is known; {KNOWN}'
 
 
-def judged_bytes(content, options):
-    """Our own bytes with the mode that is asked for. The program refuses those that it does not take, but for their length, as they are split."""
+def check_bytes(content, options):
+    """Has the program refuse our own bytes where it does not take them: their mode, unless another is asked for, or a rest of less than four bytes.
+    Their length is no matter, as they are split."""
     if options.mode and content:
         content = bytes([BY_NAME[options.mode].number]) + content[1:]
     if not content or content[0] >= len(MODES) or len(content) % 4 != 1 or options.whole:
         printed_for(content if options.whole or len(content) <= 5 else content[:5 + (len(content) - 1) % 4])
-    return content
 
 
 def check_whole(times):
@@ -101,11 +97,14 @@ def check_whole(times):
 def taken(content, name, options):
     """The capture, and the wire of it that is listed."""
     form = FORMS[options.format] if options.format else form_of(content) or BYTES
-    capture = capture_of(judged_bytes(content, options) if form == BYTES else content, name, form, options.rate)
+    capture = capture_of(content, name, form, options.rate)
+    if form == BYTES:
+        # What is asked for as plain text, or said to be our bytes, is listed whatever it looks like.
+        if not options.plain and options.format is None and capture.mode is not None and looks_like_samples(capture.wires[0].edges):
+            raise NoCapture(f'{name} begins with the byte {content[0]}, as our bytes do, but the readings behind it are no clock\'s: raw samples, it seems. '
+                            'Export them as VCD or CSV, or as a session: sigrok-cli -I binary:numchannels=8:samplerate=RATE -i FILE -o FILE.sr')
+        check_bytes(content, options)
     wire = chosen(capture, options.wire, name)
-    if form == BYTES and options.format is None and looks_like_samples(wire.edges):
-        raise NoCapture(f'{name} begins with the byte {content[0]}, as our bytes do, but the readings behind it are no clock\'s: raw samples, it seems. '
-                        'Export them as VCD or CSV, or as a session: sigrok-cli -I binary:numchannels=8:samplerate=RATE -i FILE -o FILE.sr')
     if options.whole:
         check_whole(wire.edges)
     return capture, wire
@@ -116,7 +115,7 @@ def listed_capture(name, content, options, notes):
     capture, wire = taken(content, name, options)
     listing = listing_of(capture, wire, options, notes)
     if wire.unknown:
-        notes.append(f'the wire was neither 0 nor 1 (x or z) {wire.unknown} times; an edge counts where the next known value is another than the last')
+        notes.append(f'the wire was neither 0 nor 1 (x or z) {amount(wire.unknown, "time")}; an edge counts where the next known value is another than the last')
     notes += sampling_notes(capture, listing)
     return Listed(capture, wire, listing, wire.edges[0] if capture.form == BYTES and wire.edges else 0)
 
@@ -134,7 +133,8 @@ def rate(text):
 
 
 def add_input_options(parser):
-    """The options by which a call says what the capture is."""
+    """The options by which a call says what the capture is. Only some tools can also be asked for plain text and for one piece."""
+    parser.set_defaults(plain=False, whole=False)
     parser.add_argument('--mode', type=str.upper, choices=sorted(BY_NAME))
     parser.add_argument('--wire')
     parser.add_argument('--rate', type=rate)
