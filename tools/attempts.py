@@ -141,7 +141,7 @@ def handed(times, borders, piece):
 
 def as_bytes(mode, times):
     """A capture in our own bytes."""
-    readings = array.array('I', times if not times or times[-1] < CLOCK else [time % CLOCK for time in times])
+    readings = array.array('I', times if not times or 0 <= times[0] and times[-1] < CLOCK else [time % CLOCK for time in times])
     if sys.byteorder == 'big':
         readings.byteswap()
     return bytes([mode.number]) + readings.tobytes()

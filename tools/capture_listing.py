@@ -100,7 +100,7 @@ def taken(content, name, options):
     capture = capture_of(content, name, form, options.rate)
     if form == BYTES:
         # What is asked for as plain text, or said to be our bytes, is listed whatever it looks like.
-        if not options.plain and options.format is None and capture.mode is not None and looks_like_samples(capture.wires[0].edges):
+        if not options.plain and options.format is None and capture.mode is not None and looks_like_samples(content, capture.wires[0].edges):
             raise NoCapture(f'{name} begins with the byte {content[0]}, as our bytes do, but the readings behind it are no clock\'s: raw samples, it seems. '
                             'Export them as VCD or CSV, or as a session: sigrok-cli -I binary:numchannels=8:samplerate=RATE -i FILE -o FILE.sr')
         check_bytes(content, options)

@@ -24,10 +24,18 @@ class NoCapture(Exception):
 
 
 class Wire(NamedTuple):
-    """A wire: its name, the times of its edges in ns, and how often its value was neither 0 nor 1."""
+    """A wire: its name, the times of its edges in ns, how often its value was neither 0 nor 1, and other names of it."""
     name: str
     edges: list
     unknown: int = 0
+    aliases: tuple = ()
+
+    def is_called(self, name):
+        return name in (self.name, *self.aliases)
+
+    def is_called_in_short(self, name):
+        """Whether this is its name without the scopes that it stands in."""
+        return name in [full.rpartition('.')[2] for full in (self.name, *self.aliases)]
 
 
 class Capture(NamedTuple):
@@ -121,12 +129,13 @@ def of_bytes(content):
     return Capture(BYTES, [Wire('', unrolled(readings_of(content)))], mode=content[0] if content[0] < len(MODES) else None, content=content)
 
 
-def looks_like_samples(times):
+def looks_like_samples(content, times):
     """Whether the readings of our own bytes can hardly be a clock's: one that stands still or leaps by over a second at most edges. Sample
     bytes taken for readings do so."""
     count = len(times) - 1
-    # Most captures are cleared by a look at their two ends.
-    if count < 16 or 0 < times[-1] - times[0] < count * LEAP // 4:
+    # Most captures are cleared by a look at some bytes, of which samples have few values, and at the two ends.
+    has_many_values = len(set(content[1::len(content) // 512 | 1])) > 16
+    if count < 16 or has_many_values and 0 < times[-1] - times[0] < count * LEAP // 4:
         return False
     return sum(1 for gap in map(operator.sub, times[1:], times) if not gap or gap > LEAP) * 2 > count
 
@@ -146,7 +155,7 @@ def chosen(capture, wanted, name):
     """The wire to list: the one that is asked for, or the only one that has edges, or the only one."""
     wires = capture.wires
     if wanted is not None:
-        found = [wire for wire in wires if wire.name == wanted] or [wire for wire in wires if wire.name.rpartition('.')[2] == wanted]
+        found = [wire for wire in wires if wire.is_called(wanted)] or [wire for wire in wires if wire.is_called_in_short(wanted)]
         if len(found) == 1:
             return found[0]
         raise NoCapture(f'{name} has {amount(len(found), "wire")} {ascii(wanted)}; {named(wires)}')

@@ -49,8 +49,15 @@ def table_of(text, name):
     if not any(cell in VALUES for _, line in rows[:LOOKED_AT] for cell in cells(line, separator)):
         raise NoCapture(f'{name} is text, but neither a VCD nor a CSV with values 0 and 1; {KNOWN}')
     first = cells(rows[0][1], separator)
-    is_named = not all(NUMBER.fullmatch(cell) for cell in first)
+    # Channels may have numbers for names; sigrok tells them in a comment.
+    is_named = not all(NUMBER.fullmatch(cell) for cell in first) or first == channels(comments)
     return Table(comments, first if is_named else [], rows[is_named:], separator)
+
+
+def channels(comments):
+    """The names of the channels that sigrok tells in a comment."""
+    listed = told(CHANNELS, comments)
+    return [name.strip() for name in listed[1].split(',')] if listed else []
 
 
 def told(pattern, comments):
@@ -89,7 +96,7 @@ def is_time(name):
 def clock_of(table, rate, name):
     """How the rows tell their times: by the names of the columns, the comments, and the rate that was given."""
     said = told(SAMPLE_RATE, table.comments)
-    rate = Fraction(said[1]) * PREFIXES[said[2]] if said else rate
+    rate = (Fraction(said[1]) * PREFIXES[said[2]] if said else None) or rate
     period = Fraction(10 ** 9) / rate if rate else None
     first = table.names[0] if table.names else ''
     has_time = is_time(first)
@@ -98,27 +105,33 @@ def clock_of(table, rate, name):
         has_time = any(cells(line, table.separator)[0] not in VALUES for _, line in table.rows[:LOOKED_AT])
     if not has_time and not period:
         raise NoCapture(f'{name} has samples and does not say their rate; give it, as --rate 24M')
-    unit = UNITS[(TIME.fullmatch(first)[1] or 's').lower()] if TIME.fullmatch(first) else UNITS.get(first.lower())
+    unit = unit_of(first)
+    if has_time and unit is None and first and not said:
+        unit = UNITS['seconds']
     if has_time and unit is None:
         unit = guessed_unit(period, table, name)
     # Only sigrok, which tells the rate in a comment, rounds times down by the sample.
     return Clock(has_time or is_count, unit, period if said or not has_time else None, is_count)
 
 
+def unit_of(name):
+    """The unit that the name of a column of times says, or nothing."""
+    time = TIME.fullmatch(name)
+    return UNITS.get((time[1] or '') if time else name.lower())
+
+
 def guessed_unit(period, table, name):
-    """The unit of times whose column has no name: seconds where they have a point; sigrok takes the largest in which a sample takes a whole one."""
+    """The unit of times whose column does not say it: seconds where they have a point; sigrok takes the largest in which a sample takes a whole one."""
     if any('.' in cells(line, table.separator)[0] for _, line in table.rows):
         return UNITS['seconds']
     if not period:
         raise NoCapture(f'{name} does not say the unit of its times; name the first column, as Time [s]')
-    return next((unit for unit in (UNITS['microseconds'], UNITS['nanoseconds']) if period % unit == 0), UNITS['nanoseconds'])
+    return next((UNITS[unit] for unit in ('seconds', 'milliseconds', 'microseconds', 'nanoseconds') if period >= UNITS[unit]), UNITS['picoseconds'])
 
 
 def wire_names(table, count, has_cell):
     """The names of the data columns: their own, or sigrok's list of channels where it calls each column logic."""
-    names = table.names[has_cell:] if table.names else []
-    channels = told(CHANNELS, table.comments)
-    listed = [name.strip() for name in channels[1].split(',')] if channels else []
+    names, listed = table.names[has_cell:], channels(table.comments)
     if not names or set(names) == {'logic'}:
         names = listed if len(listed) == count else [f'column {place + 1 + has_cell}' for place in range(count)]
     return names

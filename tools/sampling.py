@@ -11,8 +11,6 @@ from fractions import Fraction
 COMMON = {'HSM': '125 MS/s is common', 'LSM': '5, 6 and 8 MS/s are common'}
 # A head's clock is never quite right, so that a gap which is a whole number of samples may come out one shorter or longer.
 DRIFT = Fraction(1, 10_000)
-# A period told from time stamps alone is looked for among the first gaps.
-LOOKED_AT = 2000
 
 
 def is_coarse(mode, period):
@@ -51,7 +49,7 @@ def fitted(gaps, count):
 def guessed(mode, times):
     """The period of the samples behind time stamps that do not tell it, or nothing where they stand on no grid as coarse as the tolerance.
     Stamps on the mode's own spacing are those of a page without any jitter, as a program writes it."""
-    gaps = sorted({gap for gap in map(operator.sub, times[1:LOOKED_AT], times) if 0 < gap < mode.quiet})
+    gaps = sorted({gap for gap in map(operator.sub, times[1:], times) if 0 < gap < mode.quiet})
     if len(gaps) < 3:
         return None
     for count in range(1, 9):

@@ -7,7 +7,9 @@ from page_fields import Kinds, words_of
 
 
 def time_words(nanoseconds):
-    """A time in the unit that suits it, to the ns."""
+    """A time in the unit that suits it, to the ns. Ahead of an analyser's trigger it is negative."""
+    if nanoseconds < 0:
+        return f'-{time_words(-nanoseconds)}'
     if nanoseconds < 1000:
         return f'{nanoseconds} ns'
     for unit, scale, digits in ('µs', 10 ** 3, 3), ('ms', 10 ** 6, 6), ('s', 10 ** 9, 9):

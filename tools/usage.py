@@ -2,6 +2,7 @@
 
 The docstring of a tool is its help: a sentence on what it is for; an indented paragraph with its calls, the usage; and what else a user
 has to know."""
+import codecs
 import os
 import signal
 import sys
@@ -36,6 +37,16 @@ def option(document, *known):
     return arguments[0] if arguments else ''
 
 
+def one_line(words):
+    """Words as one line, whatever is in them: the name of a file may have any letters."""
+    return ''.join(letter if letter.isprintable() else ascii(letter)[1:-1] for letter in words)
+
+
+def simpler_letters(fault):
+    """What is printed where the output takes none but English letters."""
+    return ''.join('u' if letter in 'µμ' else '?' for letter in fault.object[fault.start:fault.end]), fault.end
+
+
 def end_with(main, tool):
     """Does what a tool is for, and ends with its exit status; or with 1 and a line that says why, where its output could not be written."""
     # A reader that has seen enough, as head, may close the pipe.
@@ -43,6 +54,8 @@ def end_with(main, tool):
     try:
         if sys.stdout is None:
             raise OSError(0, 'it is closed')
+        codecs.register_error('simpler', simpler_letters)
+        sys.stdout.reconfigure(errors='simpler')
         status = main()
         sys.stdout.flush()
     except OSError as fault:

@@ -20,12 +20,16 @@ class Lines:
 
     def __init__(self):
         self.names, self.values, self.edges, self.unknown = {}, {}, {}, {}
+        # Variables with the same code are one line by several names.
+        self.aliases = {}
 
     def declare(self, code, width, name):
-        """A variable; a second one with the same code is the same line by another name."""
+        """A variable of so many bits. Its first name is that of the line; a second one with the same code is an alias."""
+        names = [name] if width == 1 else [f'{name}[{width - 1 - place}]' for place in range(width)]
         if code in self.names:
+            self.aliases[code].append(names)
             return
-        self.names[code] = [name] if width == 1 else [f'{name}[{width - 1 - place}]' for place in range(width)]
+        self.names[code], self.aliases[code] = names, []
         for place in range(width):
             self.values[code, place], self.edges[code, place], self.unknown[code, place] = None, [], 0
 
@@ -40,7 +44,7 @@ class Lines:
         self.values[line] = known
 
     def wires(self):
-        return [Wire(name, self.edges[code, place], self.unknown[code, place])
+        return [Wire(name, self.edges[code, place], self.unknown[code, place], tuple(others[place] for others in self.aliases[code] if place < len(others)))
                 for code, names in self.names.items() for place, name in enumerate(names)]
 
 
@@ -100,7 +104,7 @@ def read_head(words, name):
             scopes.pop()
         elif keyword == '$var':
             others.add(declared(inside, scopes, lines, name))
-        elif keyword == '$comment' and (rate := RATE.search(' '.join(inside))):
+        elif keyword == '$comment' and (rate := RATE.search(' '.join(inside))) and Fraction(rate[1]):
             period = Fraction(10 ** 9) / (Fraction(rate[1]) * PREFIXES[rate[2]])
     if unit is None:
         raise NoCapture(f'{name} has no timescale, so that its times have no unit; a VCD says it, as $timescale 1 ns $end')

@@ -65,7 +65,7 @@ def result(content, **chosen):
     """What tools/list makes of a capture, given as bytes, text or a path, by the same function as the command, in this process."""
     path = content if isinstance(content, pathlib.Path) else file_of(content)
     if 'rate' in chosen:
-        chosen['rate'] = LIST.rate(chosen['rate'])
+        chosen['rate'] = sys.modules['capture_listing'].rate(chosen['rate'])
     options = {'mode': None, 'wire': None, 'rate': None, 'format': None, 'plain': False, 'whole': False, **chosen}
     return LIST.result(str(path), argparse.Namespace(**options))
 
