@@ -32,7 +32,7 @@ def edges_of_page(mode):
 
 
 def assert_is_the_page(found, mode, later=(0,)):
-    """The listing has the page and nothing else, at its time or one of so many ns later."""
+    """The listing has the page and nothing else, at its time or one of so many ns later, or earlier where that is negative."""
     assert found.status == 0, found.notes
     edges = edges_of_page(mode)
     assert found.text.split('\n')[0] == f'mode {mode.name} edges {len(edges)}'
@@ -169,10 +169,11 @@ def test_the_csv_of_saleae_with_a_second_channel_that_is_still_lists_as_the_page
 
 
 def test_the_csv_of_saleae_whose_times_begin_below_zero_lists_as_the_page():
-    """Logic counts from the trigger where there is one, so that what was recorded before it has times below zero."""
+    """Logic counts from the trigger where there is one, so that what was recorded before it has times below zero. They are told as they
+    are in the file, since that is where a person looks them up."""
     rows = [(-5000, 0), *((time - 5000, number % 2) for number, time in enumerate(edges_of_page(HSM), 1))]
     text = 'Time [s],Channel 0\n' + ''.join(f'{time / 10 ** 9:.12f},{value}\n' for time, value in rows)
-    assert_is_the_page(result(text), HSM)
+    assert_is_the_page(result(text), HSM, later=(-5000,))
 
 
 def test_the_csv_of_saleae_with_times_as_powers_of_ten_lists_as_the_page():
