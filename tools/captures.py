@@ -38,6 +38,25 @@ class Wire(NamedTuple):
         return name in [full.rpartition('.')[2] for full in (self.name, *self.aliases)]
 
 
+class Level:
+    """What a wire is over time. An edge is a change between 0 and 1, also where something else stood between; the first value is none."""
+
+    def __init__(self):
+        self.value, self.edges, self.unknown = None, [], 0
+
+    def take(self, value, time):
+        """The wire is 0 or 1 from a time on, or nothing that is known."""
+        if value is None:
+            self.unknown += 1
+            return
+        if self.value not in (None, value):
+            self.edges.append(time)
+        self.value = value
+
+    def wire(self, name, aliases=()):
+        return Wire(name, self.edges, self.unknown, aliases)
+
+
 class Capture(NamedTuple):
     """What a file has. The mode is that of our own bytes; the period between two samples, in ns, and the end are known where the file says them."""
     form: str

@@ -4,7 +4,7 @@ import re
 from fractions import Fraction
 from typing import NamedTuple
 
-from captures import CSV, KNOWN, Capture, NoCapture, Wire, nanoseconds
+from captures import CSV, KNOWN, Capture, Level, NoCapture, nanoseconds
 from vcd_captures import PREFIXES
 
 UNITS = {'seconds': Fraction(10 ** 9), 'milliseconds': Fraction(10 ** 6), 'microseconds': Fraction(1000), 'nanoseconds': Fraction(1),
@@ -138,24 +138,20 @@ def wire_names(table, count, has_cell):
 
 
 class Columns:
-    """The values of each data column over time."""
+    """The levels of the data columns, and which of them have had other values than a wire has."""
 
     def __init__(self, count):
-        self.values, self.edges, self.unknown = [None] * count, [[] for _ in range(count)], [0] * count
-        self.odd = [False] * count
+        self.levels, self.odd = [Level() for _ in range(count)], [False] * count
 
     def take(self, row, time):
         for place, cell in enumerate(row):
-            if cell not in VALUES:
+            if cell in VALUES:
+                self.levels[place].take(VALUES[cell], time)
+            else:
                 self.odd[place] = True
-                continue
-            value = VALUES[cell]
-            if value is None:
-                self.unknown[place] += 1
-                continue
-            if self.values[place] not in (None, value):
-                self.edges[place].append(time)
-            self.values[place] = value
+
+    def wires(self, names):
+        return [level.wire(name) for level, name, is_odd in zip(self.levels, names, self.odd) if not is_odd]
 
 
 def capture(text, name, rate):
@@ -181,8 +177,7 @@ def capture(text, name, rate):
 
 
 def told_wires(table, columns, clock, time, name):
-    names = wire_names(table, len(columns.values), clock.has_cell)
-    wires = [Wire(wire, edges, unknown) for wire, edges, unknown, odd in zip(names, columns.edges, columns.unknown, columns.odd) if not odd]
+    wires = columns.wires(wire_names(table, len(columns.levels), clock.has_cell))
     if time is None:
         raise NoCapture(f'{name} names columns and has no rows: it is cut, or nothing was recorded')
     if not wires:

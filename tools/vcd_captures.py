@@ -1,8 +1,9 @@
 """Value change dumps (VCD), as IEEE 1364 has them: captures that analysers and simulators write, and files that PulseView and GTKWave read."""
+import itertools
 import re
 from fractions import Fraction
 
-from captures import VCD, Capture, NoCapture, Wire, nanoseconds
+from captures import VCD, Capture, Level, NoCapture, nanoseconds
 
 UNITS = {'s': Fraction(10 ** 9), 'ms': Fraction(10 ** 6), 'us': Fraction(1000), 'ns': Fraction(1), 'ps': Fraction(1, 1000), 'fs': Fraction(1, 10 ** 6)}
 # sigrok tells the rate of the samples in a comment.
@@ -16,36 +17,27 @@ DUMPS = ('$dumpvars', '$dumpall', '$dumpon', '$dumpoff')
 
 
 class Lines:
-    """The value of each bit of each variable over time: when it changed between 0 and 1, and how often it was neither."""
+    """The variables by their codes: the level of each bit, and its names."""
 
     def __init__(self):
-        self.names, self.values, self.edges, self.unknown = {}, {}, {}, {}
-        # Variables with the same code are one line by several names.
-        self.aliases = {}
+        self.levels, self.names = {}, {}
 
     def declare(self, code, width, name):
-        """A variable of so many bits. Its first name is that of the line; a second one with the same code is an alias."""
+        """A variable of so many bits. A second one with the same code is the same line by another name."""
+        self.levels.setdefault(code, [Level() for _ in range(width)])
         names = [name] if width == 1 else [f'{name}[{width - 1 - place}]' for place in range(width)]
-        if code in self.names:
-            self.aliases[code].append(names)
-            return
-        self.names[code], self.aliases[code] = names, []
-        for place in range(width):
-            self.values[code, place], self.edges[code, place], self.unknown[code, place] = None, [], 0
+        self.names.setdefault(code, []).append(names)
 
-    def change(self, code, place, value, time):
-        """A bit has a value. An edge is a change between 0 and 1, also where x or z stood between; the first value is none."""
-        line, known = (code, place), KNOWN_VALUES.get(value)
-        if known is None:
-            self.unknown[line] += 1
-            return
-        if self.values[line] not in (None, known):
-            self.edges[line].append(time)
-        self.values[line] = known
+    def change(self, code, values, time):
+        """A variable has these values, the highest bit first."""
+        for level, value in zip(self.levels[code], extended(values, len(self.levels[code]))):
+            level.take(KNOWN_VALUES.get(value), time)
 
     def wires(self):
-        return [Wire(name, self.edges[code, place], self.unknown[code, place], tuple(others[place] for others in self.aliases[code] if place < len(others)))
-                for code, names in self.names.items() for place, name in enumerate(names)]
+        for code, levels in self.levels.items():
+            # A name with fewer bits than the line has none for the others.
+            for level, (name, *aliases) in zip(levels, itertools.zip_longest(*self.names[code])):
+                yield level.wire(name, tuple(alias for alias in aliases if alias))
 
 
 def head_of(text, name):
@@ -108,7 +100,7 @@ def read_head(words, name):
             period = Fraction(10 ** 9) / (Fraction(rate[1]) * PREFIXES[rate[2]])
     if unit is None:
         raise NoCapture(f'{name} has no timescale, so that its times have no unit; a VCD says it, as $timescale 1 ns $end')
-    return unit, lines, others - set(lines.names), period
+    return unit, lines, others - set(lines.levels), period
 
 
 def extended(digits, width):
@@ -149,9 +141,8 @@ def change(word, waiting, lines, others, time, name):
     values, code = word[0], word[1:]
     if values in 'bBrRsS':
         values, code = word[1:] or ' ', next(waiting, '')
-    if code in lines.names and VALUES.fullmatch(values):
-        for place, value in enumerate(extended(values, len(lines.names[code]))):
-            lines.change(code, place, value, time)
+    if code in lines.levels and VALUES.fullmatch(values):
+        lines.change(code, values, time)
     elif code not in others or not code:
         raise NoCapture(f'{name}: {ascii(word[:20])} is no change of a value of any wire; the file is damaged or cut')
 
@@ -163,7 +154,7 @@ def capture(text, name):
     end = read_body(body, lines, others, unit, name)
     if end is None:
         raise NoCapture(f'{name} has a head but no times: it is cut, or nothing was recorded')
-    return Capture(VCD, lines.wires(), period=period, end=end)
+    return Capture(VCD, list(lines.wires()), period=period, end=end)
 
 
 def written(times, quiet, label='line'):
