@@ -2,11 +2,11 @@
 
 By 01 an attempt opens at the first edge and at every edge that follows a quiet gap, wherever the reader is then. So the edges of a capture fall
 into stretches between quiet gaps, with one attempt each, and a long capture may be handed to the program in pieces that end at quiet gaps: the
-end of a piece counts as quiet. Of a stretch of more edges than any page has, the rest is dropped by every reader, and need not be handed over."""
+end of a piece counts as quiet. A stretch that is longer than a piece has one attempt too, which is over within the piece, since no page has more
+than 150 edges; the rest of the stretch is dropped by every reader, and need not be handed over."""
 import array
 import functools
 import itertools
-import operator
 import os
 import pathlib
 import subprocess
@@ -14,7 +14,7 @@ import sys
 from typing import NamedTuple
 
 from captures import NoCapture
-from line_modes import CLOCK, MOST_EDGES, MOST_READINGS
+from line_modes import CLOCK, MOST_READINGS, edges_of
 
 TOOLS = pathlib.Path(__file__).resolve().parent
 REFUSED = b'refused '
@@ -109,30 +109,21 @@ def printed_for(content):
     return printed.decode()
 
 
-def stretches(mode, times):
-    """The stretches of edges between quiet gaps: where each begins, and where the last one ends."""
-    quiet = mode.quiet
-    begins = [place for place, gap in enumerate(map(operator.sub, times[1:], times), 1) if gap >= quiet]
-    return [0, *begins, len(times)] if times else [0]
+def quiet_from(mode, times, place):
+    """The first edge from a place on that follows a quiet gap, or how many edges there are."""
+    return next((edge for edge in range(place, len(times)) if times[edge] - times[edge - 1] >= mode.quiet), len(times))
 
 
-def pieces(borders):
-    """The stretches gathered into pieces that the program takes, each a list of numbers of stretches. One that is too long is a piece of its own."""
-    piece, count = [], 0
-    for number, (first, behind) in enumerate(zip(borders, borders[1:])):
-        if piece and count + behind - first > MOST_READINGS:
-            yield piece
-            piece, count = [], 0
-        piece.append(number)
-        count += behind - first
-    if piece:
-        yield piece
+def piece_end(mode, times, begin):
+    """Where a piece ends: at the last quiet gap of what the program takes at once. Within a stretch that is longer than that it ends anywhere."""
+    most = begin + MOST_READINGS
+    if len(times) <= most:
+        return len(times)
+    return next((edge for edge in range(most, begin, -1) if times[edge] - times[edge - 1] >= mode.quiet), most)
 
 
-def handed(times, borders, piece):
-    """The edges of a piece that are handed to the program. A gap that the clock could not tell from a shorter one is shortened, and stays quiet."""
-    first, behind = borders[piece[0]], borders[piece[-1] + 1]
-    edges = times[first:behind] if behind - first <= MOST_READINGS else times[first:first + MOST_EDGES]
+def on_clock(edges):
+    """Edges as they are handed to the program: a gap that the clock could not tell from a shorter one is shortened, and stays quiet."""
     if edges[-1] - edges[0] < CLOCK:
         return edges
     gaps = (min(after - before, CLOCK - 1) for before, after in zip(edges, edges[1:]))
@@ -147,23 +138,30 @@ def as_bytes(mode, times):
     return bytes([mode.number]) + readings.tobytes()
 
 
-def endings(text, count):
+def endings(text):
     """How each attempt of a listing ended, and its word."""
-    lines = text.split('\n')
-    if len(lines) != count + 3:
-        raise NoCapture(f'the program listing tells {len(lines) - 3} attempts where the capture has {count} stretches between quiet gaps')
-    for line in lines[1:-2]:
+    for line in text.split('\n')[1:-2]:
         _, ending, *word = line.split(' ')
         yield ending, int(word[0], 16) if word else None
 
 
+def attempts_in(mode, times, begin, end):
+    """The attempts of a piece without their numbers: of each how it ended, its word, and its stretch of edges."""
+    for ending, word in endings(printed_for(as_bytes(mode, on_clock(times[begin:end])))):
+        # The program has taken all edges of a good page, so that no quiet gap is among them.
+        behind = quiet_from(mode, times, begin + (edges_of(mode, word) if ending == 'good' else 1))
+        yield ending, word, begin, behind
+        begin = behind
+
+
 def listed(mode, times):
-    """A capture listed by the program, in as many pieces as it takes. With no edges there is still a listing."""
-    borders = stretches(mode, times)
-    attempts, good = [], 0
-    for piece in list(pieces(borders)) or [[]]:
-        text = printed_for(as_bytes(mode, handed(times, borders, piece) if piece else []))
-        for number, (ending, word) in zip(piece, endings(text, len(piece))):
-            attempts.append(Attempt(number + 1, ending, word, borders[number], borders[number + 1]))
-            good += ending == 'good'
-    return Listing(mode, times, attempts, good)
+    """A capture listed by the program, in as many pieces as it takes."""
+    attempts, begin = [], 0
+    while begin < len(times):
+        end = piece_end(mode, times, begin)
+        piece = list(attempts_in(mode, times, begin, end))
+        if not piece or not piece[-1][2] < end <= piece[-1][3]:
+            raise NoCapture(f'the program listing tells {len(piece)} attempts in edges {begin + 1}-{end}, and there are not so many quiet gaps, or more')
+        attempts += [Attempt(number, *found) for number, found in enumerate(piece, len(attempts) + 1)]
+        begin = piece[-1][3]
+    return Listing(mode, times, attempts, sum(attempt.ending == 'good' for attempt in attempts))

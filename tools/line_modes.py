@@ -9,8 +9,6 @@ FIRST_CLOCK, LAST_CLOCK = 27, 153
 # Behind the last data bit: a transition, none, and the page's last transition.
 END = 155
 WORD_BITS, CHECK_BITS = 48, 16
-# No page has more transitions, so that an attempt has ended by then.
-MOST_EDGES = 150
 # What one call of the program listing takes.
 MOST_READINGS = 8000
 CLOCK = 2 ** 32

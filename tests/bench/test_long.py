@@ -4,7 +4,7 @@ import itertools
 import pytest
 
 import plain_reader
-from bench_tools import LIST, file_of, plain, ran, result
+from bench_tools import LIST, assert_one_note, file_of, plain, ran, result
 from expected_words import assert_told
 from made_captures import own_bytes, pages_apart, random_capture, saleae, seeded, vcd
 from plain_reader import HSM, LSM, MODES
@@ -81,6 +81,16 @@ def test_the_program_is_handed_no_piece_of_more_than_8000_edges(monkeypatch):
     edges = random_capture(LSM, seeded(24), 30_000, longest=8500)
     plain(own_bytes(LSM, edges))
     assert max(sizes) <= 8000 and len(sizes) <= 6
+
+
+@pytest.mark.parametrize('change', [lambda lines: lines[:1] + lines[-2:], lambda lines: lines[:-3] + lines[-2:], lambda lines: lines[:-2] + lines[-3:]],
+                         ids=['none', 'one fewer', 'one more'])
+@pytest.mark.parametrize('count', [3, 100])
+def test_a_number_of_attempts_that_the_edges_do_not_have_is_never_listed(monkeypatch, change, count):
+    """In one piece and in two: an attempt that is left out or told twice would shift all behind it."""
+    real = LIST.attempts.printed_for
+    monkeypatch.setattr(LIST.attempts, 'printed_for', lambda content: '\n'.join(change(real(content).split('\n'))))
+    assert_one_note(result(own_bytes(HSM, pages_apart(HSM, [0x850001] * count, 1000))))
 
 
 @BOTH
