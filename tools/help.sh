@@ -12,17 +12,17 @@ head_comment() { # SCRIPT
         '#!'*) ;;
         '#'*)
             line=${line#'#'}
-            printf '%s\n' "${line# }"
+            printf '%s\n' "${line# }" || return 1
             ;;
         *) return 0 ;;
         esac
     done <"$1"
 }
 
-# Ends with the help where --help is the only argument.
+# Ends with the help where --help is the only argument; with 1 where it could not be written.
 help_if_asked() { # SCRIPT ARGUMENTS..
     if [ $# = 2 ] && [ "$2" = --help ]; then
-        head_comment "$1"
+        head_comment "$1" || exit 1
         exit 0
     fi
 }

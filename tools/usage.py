@@ -56,9 +56,15 @@ def end_with(main, tool):
             raise OSError(0, 'it is closed')
         codecs.register_error('simpler', simpler_letters)
         sys.stdout.reconfigure(errors='simpler')
-        status = main()
-        sys.stdout.flush()
+        try:
+            status = main()
+        finally:
+            # What main has printed must arrive, also where main ends the tool by itself.
+            sys.stdout.flush()
     except OSError as fault:
+        # Where a file is named it is that file, and none of the tool's own outputs.
+        if fault.filename is not None:
+            raise
         if sys.stderr is not None:
             print(f'{tool}: standard output could not be written: {fault.strerror}', file=sys.stderr, flush=True)
         # Python would complain once more when it closes the output.
