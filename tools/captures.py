@@ -4,6 +4,7 @@ import array
 import codecs
 import itertools
 import operator
+import re
 import sys
 from fractions import Fraction
 from typing import NamedTuple
@@ -16,6 +17,8 @@ MOST_BYTES = 2 ** 30
 LEAP = 1_000_000_000
 BYTES, VCD, SESSION, CSV = 'our bytes', 'VCD', 'sigrok session', 'CSV'
 FORMS = {'bytes': BYTES, 'vcd': VCD, 'sr': SESSION, 'csv': CSV}
+# sigrok-cli writes such a line into a VCD or CSV that it converts from another file in one step.
+META = re.compile(r'META samplerate: (\d{1,15})\s*')
 KNOWN = "known are this project's bytes, VCD, sigrok sessions (.sr) and CSV"
 
 
@@ -24,11 +27,12 @@ class NoCapture(Exception):
 
 
 class Wire(NamedTuple):
-    """A wire: its name, the times of its edges in ns, how often its value was neither 0 nor 1, and other names of it."""
+    """A wire: its name, the times of its edges in ns, how often its value was neither 0 nor 1, other names of it, and why it cannot be listed."""
     name: str
     edges: list
     unknown: int = 0
     aliases: tuple = ()
+    fault: str | None = None
 
     def is_called(self, name):
         return name in (self.name, *self.aliases)
@@ -53,8 +57,8 @@ class Level:
             self.edges.append(time)
         self.value = value
 
-    def wire(self, name, aliases=()):
-        return Wire(name, self.edges, self.unknown, aliases)
+    def wire(self, name, aliases=(), fault=None):
+        return Wire(name, self.edges, self.unknown, aliases, fault)
 
 
 class Capture(NamedTuple):
@@ -112,17 +116,26 @@ def content_of(name):
         raise NoCapture(f'{ascii(name)} is no name of a file: {fault}') from None
 
 
+def decoded(content):
+    """The text of bytes: UTF-16 where they begin with its mark, else UTF-8, or Latin-1 where they are none."""
+    if content[:2] in (codecs.BOM_UTF16_LE, codecs.BOM_UTF16_BE):
+        return content.decode('utf-16')
+    try:
+        return content.decode('utf-8-sig')
+    except UnicodeDecodeError:
+        return content.decode('latin-1')
+
+
 def form_of(content):
     """What a file is, by its content; nothing where it is none that is known."""
     if content[:2] == b'PK':
         return SESSION
     if content[:1] in (b'', b'\0', b'\1'):
         return BYTES
-    # A letter of several bytes may stand across the end of the part that is looked at.
-    head = codecs.getincrementaldecoder('utf-8-sig')('replace').decode(content[:4096]).lstrip()
-    if '\ufffd' in head or any(letter < ' ' and letter not in '\t\n\r' for letter in head):
+    head = decoded(content[:4096]).lstrip()
+    if any(letter < ' ' and letter not in '\t\n\r' for letter in head):
         return None
-    return VCD if head[:1] == '$' else CSV
+    return VCD if META.sub('', head, 1)[:1] == '$' else CSV
 
 
 def unrolled(readings):
@@ -162,9 +175,9 @@ def looks_like_samples(content, times):
 def text_of(content, name):
     """The text of a file that must have whole lines: where the last one has no end, somebody may have cut it."""
     try:
-        text = content.decode('utf-8-sig')
+        text = decoded(content)
     except UnicodeDecodeError as fault:
-        raise NoCapture(f'{name}: byte {fault.start} is no text; the file is damaged') from None
+        raise NoCapture(f'{name}: byte {fault.start} is no text; the file is damaged or cut') from None
     if not text.endswith('\n'):
         raise NoCapture(f'{name} ends inside its last line, so it may be cut, and nothing of it is listed; if it is whole, end that line')
     return text
@@ -173,17 +186,22 @@ def text_of(content, name):
 def chosen(capture, wanted, name):
     """The wire to list: the one that is asked for, or the only one that has edges, or the only one."""
     wires = capture.wires
-    if wanted is not None:
-        found = [wire for wire in wires if wire.is_called(wanted)] or [wire for wire in wires if wire.is_called_in_short(wanted)]
-        if len(found) == 1:
-            return found[0]
-        raise NoCapture(f'{name} has {amount(len(found), "wire")} {ascii(wanted)}; {named(wires)}')
     if not wires:
         raise NoCapture(f'{name} has no wire with values 0 and 1')
-    moving = [wire for wire in wires if wire.edges]
-    if len(moving) > 1:
-        raise NoCapture(f'{name} has {len(moving)} wires with edges; say which, as --wire {shown(moving[0].name)}; {named(wires)}')
-    return (moving or wires)[0]
+    if wanted is not None:
+        if capture.form == BYTES:
+            raise NoCapture(f'{name} is in our own bytes, which have one wire without a name; leave --wire out')
+        found = [wire for wire in wires if wire.is_called(wanted)] or [wire for wire in wires if wire.is_called_in_short(wanted)]
+        if len(found) != 1:
+            raise NoCapture(f'{name} has {amount(len(found), "wire")} {ascii(wanted)}; {named(found or wires)}')
+    else:
+        # One that cannot be listed may be the very wire that is meant.
+        found = [wire for wire in wires if wire.edges or wire.fault] or wires[:1]
+        if len(found) > 1:
+            raise NoCapture(f'{name} has {len(found)} wires with edges; say which, as --wire {shown(found[0].name)}; {named(wires)}')
+    if found[0].fault:
+        raise NoCapture(found[0].fault)
+    return found[0]
 
 
 def amount(count, thing):

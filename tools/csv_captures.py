@@ -1,20 +1,28 @@
 """Captures as comma-separated values (CSV): sigrok's, a row for each sample or for each change, and Saleae's, a row for each change with its time."""
+import csv
+import itertools
 import math
 import re
+from datetime import datetime
 from fractions import Fraction
 from typing import NamedTuple
 
-from captures import CSV, KNOWN, Capture, Level, NoCapture, nanoseconds
+from captures import CSV, KNOWN, META, Capture, Level, NoCapture, nanoseconds
 from vcd_captures import PREFIXES
 
 UNITS = {'seconds': Fraction(10 ** 9), 'milliseconds': Fraction(10 ** 6), 'microseconds': Fraction(1000), 'nanoseconds': Fraction(1),
-         'picoseconds': Fraction(1, 1000), 's': Fraction(10 ** 9), 'ms': Fraction(10 ** 6), 'us': Fraction(1000), 'µs': Fraction(1000), 'μs': Fraction(1000),
-         'ns': Fraction(1), 'ps': Fraction(1, 1000)}
-SAMPLE_RATE = re.compile(r'[Ss]ample ?rate: (\d+(?:\.\d+)?) ([kMG]?)Hz')
+         'picoseconds': Fraction(1, 1000), 'femtoseconds': Fraction(1, 10 ** 6)}
+UNITS |= {'s': UNITS['seconds'], 'ms': UNITS['milliseconds'], 'us': UNITS['microseconds'], 'µs': UNITS['microseconds'], 'μs': UNITS['microseconds'],
+          'ns': UNITS['nanoseconds'], 'ps': UNITS['picoseconds'], 'fs': UNITS['femtoseconds']}
+SAMPLE_RATE = re.compile(r'[Ss]ample ?rate: (\d{1,15}(?:\.\d{1,15})?) ([kMG]?)Hz')
 CHANNELS = re.compile(r'Channels \(\d+/\d+\): (.*)')
-GIVEN_RATE = re.compile(r'(\d+(?:\.\d+)?) ?([kMG]?)(?:[Hh]z|S/s)?')
+GIVEN_RATE = re.compile(r'(\d{1,15}(?:\.\d{1,15})?) ?([kMG]?)(?:[Hh]z|S/s)?')
 TIME = re.compile(r'time ?(?:[\[(](\w+)[\])])?', re.IGNORECASE)
-NUMBER = re.compile(r'[-+]?(?:\d+\.?\d*|\.\d+)(?:[eE][-+]?\d{1,3})?')
+COUNT = re.compile(r'samples?(?: number)?|index', re.IGNORECASE)
+NUMBER = re.compile(r'[-+]?(?:\d{1,30}(?:\.\d{0,60})?|\.\d{1,60})(?:[eE][-+]?\d{1,3})?')
+DATE = re.compile(r'(\d{4}-\d\d-\d\d[T ]\d\d:\d\d:\d\d)(\.\d{1,18})?(Z|[-+]\d\d:\d\d)?')
+# Where two fit alike the first of these is taken: a comma may stand in names, or be a decimal one.
+SEPARATORS = ('\t', ';', ',')
 # How many rows show what the columns of a file are.
 LOOKED_AT = 2000
 VALUES = {'0': 0, '1': 1, 'x': None, 'X': None, 'z': None, 'Z': None}
@@ -27,6 +35,10 @@ class Table(NamedTuple):
     rows: list
     separator: str
 
+    def first_cells(self):
+        """The first cells of the rows that show what the columns are."""
+        return [cells(line, self.separator)[0] for _, line in self.rows[:LOOKED_AT]]
+
 
 def rate_of(text):
     """A rate that somebody has typed, in hertz, as 24M, 24 MHz or 24000000; nothing where it is none."""
@@ -35,23 +47,56 @@ def rate_of(text):
 
 
 def cells(line, separator):
-    return [cell.strip().strip('"') for cell in line.split(separator)]
+    """The cells of a line. Between quotation marks a separator is a letter."""
+    found = line.split(separator)
+    if '"' in line:
+        try:
+            found = next(csv.reader([line], delimiter=separator, skipinitialspace=True, strict=True))
+        except csv.Error:
+            # The marks go astray, and so does the number of columns, which is what is said then.
+            pass
+    return [cell.strip() for cell in found]
+
+
+def separator_of(lines):
+    """The mark that parts the first two lines into as many columns, the more the better."""
+    widths = {mark: {len(cells(line, mark)) for line in lines[:2]} for mark in SEPARATORS}
+    fitting = {mark: max(found) for mark, found in widths.items() if len(found) == 1 and found != {1}}
+    return max(fitting, key=fitting.get) if fitting else next((mark for mark in SEPARATORS if mark in lines[0]), ',')
+
+
+def is_comment(line):
+    return line[:1] in (';', '#') or bool(META.match(line))
+
+
+def lines_of(text, name):
+    """The comments ahead of a file's rows, and its other lines with their numbers. A comment amid the rows may be a damaged row."""
+    lines = [(number, line.rstrip('\r')) for number, line in enumerate(text.split('\n')[:-1], 1) if line.strip()]
+    comments = [line for _, line in itertools.takewhile(lambda numbered: is_comment(numbered[1]), lines)]
+    rows = lines[len(comments):]
+    for number, line in rows:
+        if line[0] in ';#':
+            raise NoCapture(f'{name}, line {number} is a comment amid the rows, where a row may be lost; if none is, take the comment out')
+    if not rows:
+        raise NoCapture(f'{name} has no rows: it is cut, or no capture')
+    return comments, rows
 
 
 def table_of(text, name):
     """The lines of a file, told apart. Its first line that is no comment names the columns, unless all in it are numbers."""
-    lines = [(number, line.rstrip('\r')) for number, line in enumerate(text.split('\n')[:-1], 1)]
-    comments = [line for _, line in lines if line[:1] in (';', '#')]
-    rows = [(number, line) for number, line in lines if line.strip() and line[0] not in ';#']
-    if not rows:
-        raise NoCapture(f'{name} has no rows: it is cut, or no capture')
-    separator = next((mark for mark in (',', '\t', ';') if mark in rows[0][1]), ',')
+    comments, rows = lines_of(text, name)
+    separator = separator_of([line for _, line in rows[:2]])
     if not any(cell in VALUES for _, line in rows[:LOOKED_AT] for cell in cells(line, separator)):
         raise NoCapture(f'{name} is text, but neither a VCD nor a CSV with values 0 and 1; {KNOWN}')
     first = cells(rows[0][1], separator)
     # Channels may have numbers for names; sigrok tells them in a comment.
-    is_named = not all(NUMBER.fullmatch(cell) for cell in first) or first == channels(comments)
+    is_named = first == channels(comments) or not all(NUMBER.fullmatch(cell) or DATE.fullmatch(cell) for cell in decimal_points(first, separator))
     return Table(comments, first if is_named else [], rows[is_named:], separator)
+
+
+def decimal_points(found, separator):
+    """Cells in which a decimal comma, as many countries write it, is a point."""
+    return found if separator == ',' else [cell.replace(',', '.') for cell in found]
 
 
 def channels(comments):
@@ -64,68 +109,81 @@ def told(pattern, comments):
     return next((found for comment in comments if (found := pattern.search(comment))), None)
 
 
+def told_rate(comments):
+    """The rate that the comments say, in hertz, or nothing."""
+    said, converted = told(SAMPLE_RATE, comments), told(META, comments)
+    return (Fraction(said[1]) * PREFIXES[said[2]] if said else Fraction(converted[1]) if converted else None) or None
+
+
+def reading(cell, where):
+    """The number in a cell: as it stands, or of a date the seconds."""
+    if NUMBER.fullmatch(cell) and math.isfinite(float(cell)):
+        return Fraction(cell)
+    date = DATE.fullmatch(cell)
+    try:
+        moment = datetime.fromisoformat(date[1] + (date[3] or 'Z').replace('Z', '+00:00'))
+        return int(moment.replace(microsecond=0).timestamp()) + Fraction(f'0{date[2] or ""}')
+    except (TypeError, ValueError, OverflowError):
+        raise NoCapture(f'{where}: {ascii(cell[:30])} is no time; the file is damaged or no capture') from None
+
+
 class Clock(NamedTuple):
-    """How the time of a row is found: from its first cell, in a unit of so many ns, or by counting samples of a period; or both, where the cell
-    has a whole number of units for each sample, which are rounded down."""
+    """How the time of a row is found: its first cell, or where that tells none the number of the row, counts so many ns from an origin on."""
     has_cell: bool
-    unit: Fraction | None
-    period: Fraction | None
-    # The first cell is the number of the sample.
-    is_count: bool = False
+    scale: Fraction
+    origin: Fraction = Fraction(0)
 
     def time(self, cell, index, where):
-        if not self.has_cell:
-            return nanoseconds(index, self.period.numerator, self.period.denominator)
-        if not NUMBER.fullmatch(cell) or not math.isfinite(float(cell)):
-            raise NoCapture(f'{where}: {ascii(cell[:20])} is no time; the file is damaged or no capture')
-        if self.is_count or self.step():
-            # sigrok rounds the time of each sample down to a multiple of whole units; what counts is the number of the sample.
-            count = Fraction(cell) / (1 if self.is_count else self.step())
-            return nanoseconds(count.numerator, self.period.numerator, self.period.denominator * count.denominator)
-        return round(Fraction(cell) * self.unit)
-
-    def step(self):
-        """How many whole units sigrok counts for a sample, or nothing."""
-        return self.period // self.unit if self.period and self.unit and self.period >= self.unit else 0
+        count = reading(cell.strip().strip('"').replace(',', '.'), where) - self.origin if self.has_cell else index
+        return nanoseconds(count.numerator, self.scale.numerator, count.denominator * self.scale.denominator)
 
 
-def is_time(name):
-    return name.lower() in UNITS or bool(TIME.fullmatch(name))
+def has_times(table):
+    """Whether the first column is one of times: by its name, or where columns have none, by what stands in it."""
+    if table.names:
+        return table.names[0].lower() in UNITS or bool(TIME.fullmatch(table.names[0]))
+    return any(cell not in VALUES for cell in table.first_cells())
 
 
-def clock_of(table, rate, name):
-    """How the rows tell their times: by the names of the columns, the comments, and the rate that was given."""
-    said = told(SAMPLE_RATE, table.comments)
-    rate = (Fraction(said[1]) * PREFIXES[said[2]] if said else None) or rate
-    period = Fraction(10 ** 9) / rate if rate else None
+def clock_of(table, period, name):
+    """How the rows tell their times: by the names of the columns, the comments, and the period between samples where it is known."""
     first = table.names[0] if table.names else ''
-    has_time = is_time(first)
-    is_count = bool(re.fullmatch(r'samples?(?: number)?|index', first, re.IGNORECASE))
-    if not table.names:
-        has_time = any(cells(line, table.separator)[0] not in VALUES for _, line in table.rows[:LOOKED_AT])
-    if not has_time and not period:
+    if has_times(table):
+        return time_clock(table, period, name)
+    if not period:
         raise NoCapture(f'{name} has samples and does not say their rate; give it, as --rate 24M')
-    unit = unit_of(first)
-    if has_time and unit is None and first and not said:
-        unit = UNITS['seconds']
-    if has_time and unit is None:
-        unit = guessed_unit(period, table, name)
-    # Only sigrok, which tells the rate in a comment, rounds times down by the sample.
-    return Clock(has_time or is_count, unit, period if said or not has_time else None, is_count)
+    is_count = bool(COUNT.fullmatch(first))
+    if is_count and len(table.rows) > 1 and set(table.first_cells()) == {'0'}:
+        raise NoCapture(f'{name} has 0 for the number of every sample, as sigrok-cli writes it where it converts in one step; '
+                        'have it make a session first, as sigrok-cli -I vcd -i FILE -o FILE.sr')
+    return Clock(is_count, period)
 
 
-def unit_of(name):
-    """The unit that the name of a column of times says, or nothing."""
-    time = TIME.fullmatch(name)
-    return UNITS.get((time[1] or '') if time else name.lower())
+def time_clock(table, period, name):
+    """The clock of a column of times."""
+    dates = [cell for cell in table.first_cells()[:1] if DATE.fullmatch(cell)]
+    if dates:
+        return Clock(True, UNITS['seconds'], reading(dates[0], name))
+    unit = unit_of(table, period, name)
+    # sigrok rounds the time of each sample down to a multiple of whole units; what counts is the number of the sample.
+    is_rounded = told_rate(table.comments) and told(re.compile('sigrok'), table.comments) and period >= unit
+    return Clock(True, period / (period // unit) if is_rounded else unit)
 
 
-def guessed_unit(period, table, name):
-    """The unit of times whose column does not say it: seconds where they have a point; sigrok takes the largest in which a sample takes a whole one."""
-    if any('.' in cells(line, table.separator)[0] for _, line in table.rows):
+def unit_of(table, period, name):
+    """The unit of a column of times in ns: the one that its name says, or else the likeliest."""
+    first = table.names[0] if table.names else ''
+    bracket = TIME.fullmatch(first)
+    word = bracket[1] if bracket else first
+    if word:
+        if word.lower() not in UNITS:
+            raise NoCapture(f'{name} has times in {ascii(word)}, which is no unit that is known; name the first column with one, as Time [s]')
+        return UNITS[word.lower()]
+    if any(mark in cell for cell in table.first_cells() for mark in '.,') or first and not told_rate(table.comments):
         return UNITS['seconds']
     if not period:
         raise NoCapture(f'{name} does not say the unit of its times; name the first column, as Time [s]')
+    # sigrok takes the largest one in which a sample takes a whole one.
     return next((UNITS[unit] for unit in ('seconds', 'milliseconds', 'microseconds', 'nanoseconds') if period >= UNITS[unit]), UNITS['picoseconds'])
 
 
@@ -137,49 +195,62 @@ def wire_names(table, count, has_cell):
     return names
 
 
-class Columns:
-    """The levels of the data columns, and which of them have had other values than a wire has."""
+class Column:
+    """A data column: its level, and how many cells had values and how many had not. The first of these is told, with its line."""
 
-    def __init__(self, count):
-        self.levels, self.odd = [Level() for _ in range(count)], [False] * count
+    def __init__(self):
+        self.level, self.values, self.others, self.first_other = Level(), 0, 0, ''
 
-    def take(self, row, time):
-        for place, cell in enumerate(row):
-            if cell in VALUES:
-                self.levels[place].take(VALUES[cell], time)
-            else:
-                self.odd[place] = True
+    def take(self, cell, time, number):
+        if cell in VALUES:
+            self.values += 1
+            self.level.take(VALUES[cell], time)
+        else:
+            self.first_other = self.first_other or f'{ascii(cell[:20])} in line {number}'
+            self.others += 1
 
-    def wires(self, names):
-        return [level.wire(name) for level, name, is_odd in zip(self.levels, names, self.odd) if not is_odd]
+    def wire(self, name, of):
+        """The wire of a column; nothing where most cells have other values, as those of a voltage."""
+        if self.others >= max(self.values, 1):
+            return None
+        fault = f'{of}: column {ascii(name)} has {self.first_other}, which is neither 0 nor 1; the file is damaged' if self.others else None
+        return self.level.wire(name, fault=fault)
 
 
-def capture(text, name, rate):
-    """The wires of a CSV. A column with other values than 0, 1, x and z is none: a voltage, say, or a mark."""
-    table = table_of(text, name)
-    clock = clock_of(table, rate, name)
-    width = len(cells(table.rows[0][1] if table.rows else '', table.separator)) if table.rows else len(table.names)
-    columns = Columns(width - clock.has_cell)
+def read_rows(table, clock, name):
+    """Goes through the rows. Gives the data columns and the time of the last row, or nothing where there is none."""
+    separator, width = table.separator, len(table.names or cells(table.rows[0][1], table.separator))
+    columns = [Column() for _ in range(width - clock.has_cell)]
     time, before = None, None
     for index, (number, line) in enumerate(table.rows):
-        first, _, rest = line.partition(table.separator) if clock.has_cell else ('', '', line)
-        now = clock.time(first.strip(), index, f'{name}, line {number}')
+        if '"' in line:
+            line = separator.join(cells(line, separator))
+        first, mark, rest = line.partition(separator) if clock.has_cell else ('', separator, line)
+        now = clock.time(first, index, f'{name}, line {number}')
         if time is not None and now < time:
             raise NoCapture(f'{name}, line {number}: the time goes back; the file is damaged')
         time = now
         if rest != before:
-            row = cells(rest, table.separator)
-            if len(row) != width - clock.has_cell:
-                raise NoCapture(f'{name}, line {number} has {len(row) + clock.has_cell} columns where others have {width}; the file is damaged or cut')
-            columns.take(row, time)
+            row = cells(rest, separator) if mark else []
+            if len(row) != len(columns):
+                raise NoCapture(f'{name}, line {number} has {len(row) + clock.has_cell} columns where the first line has {width}; the file is damaged or cut')
+            for column, cell in zip(columns, row):
+                column.take(cell, time, number)
             before = rest
-    return told_wires(table, columns, clock, time, name)
+    return columns, time
 
 
-def told_wires(table, columns, clock, time, name):
-    wires = columns.wires(wire_names(table, len(columns.levels), clock.has_cell))
-    if time is None:
+def capture(text, name, rate):
+    """The wires of a CSV. A column with hardly any value 0, 1, x or z is none: a voltage, say, or a mark."""
+    table = table_of(text, name)
+    rate = told_rate(table.comments) or rate
+    period = Fraction(10 ** 9) / rate if rate else None
+    clock = clock_of(table, period, name)
+    columns, end = read_rows(table, clock, name)
+    if end is None:
         raise NoCapture(f'{name} names columns and has no rows: it is cut, or nothing was recorded')
+    names = wire_names(table, len(columns), clock.has_cell)
+    wires = [wire for column, title in zip(columns, names) if (wire := column.wire(title, name))]
     if not wires:
         raise NoCapture(f'{name} has no column with values 0 and 1 alone: it is no capture, or one of voltages')
-    return Capture(CSV, wires, period=clock.period, end=time)
+    return Capture(CSV, wires, period=period, end=end)

@@ -7,8 +7,12 @@ lie in its window."""
 import operator
 from fractions import Fraction
 
+from line_modes import MODES
+
 # The lowest rates that analysers commonly offer and that are enough.
 COMMON = {'HSM': '125 MS/s is common', 'LSM': '5, 6 and 8 MS/s are common'}
+# So many gaps at least must stand on a grid before it is one, and only those are looked at that are so many times as long as the shortest.
+FEWEST, SHORT = 16, 12
 # A head's clock is never quite right, so that a gap which is a whole number of samples may come out one shorter or longer.
 DRIFT = Fraction(1, 10_000)
 
@@ -24,8 +28,9 @@ def is_coarse(mode, period):
 
 def rate_words(period):
     """A period in ns as a rate."""
-    rate = 1000 / float(period)
-    return f'{rate:.4g} MS/s' if rate < 1000 else f'{rate / 1000:.4g} GS/s'
+    rate = 1e9 / float(period)
+    scale, unit = next((scale, unit) for scale, unit in ((1e9, 'GS/s'), (1e6, 'MS/s'), (1e3, 'kS/s'), (0, 'S/s')) if rate >= scale)
+    return f'{rate / (scale or 1):.4g} {unit}'
 
 
 def needed(mode):
@@ -34,13 +39,14 @@ def needed(mode):
 
 
 def coarse_words(mode, period):
-    return (f'too coarse for {mode.name}: a gap comes out up to {float(period):.3g} ns too short or too long, and a page allows {mode.tolerance} ns; '
+    off = f'{float(period):.0f}' if period >= 100 else f'{float(period):.3g}'
+    return (f'too coarse for {mode.name}: a gap comes out up to {off} ns too short or too long, and a page allows {mode.tolerance} ns; '
             f'it takes {needed(mode):g} MS/s or more ({COMMON[mode.name]})')
 
 
 def fitted(gaps, count):
     """The period of which the shortest gap is a number of samples, if each gap is then a whole number of them but for rounding; else nothing."""
-    period = Fraction(min(gaps), count)
+    period = Fraction(gaps[0], count)
     numbers = [round(gap / period) for gap in gaps]
     period = Fraction(sum(map(operator.mul, numbers, gaps)), sum(number * number for number in numbers))
     return period if all(abs(gap - number * period) <= 1 for gap, number in zip(gaps, numbers)) else None
@@ -48,12 +54,15 @@ def fitted(gaps, count):
 
 def guessed(mode, times):
     """The period of the samples behind time stamps that do not tell it, or nothing where they stand on no grid as coarse as the tolerance.
-    Stamps on the mode's own spacing are those of a page without any jitter, as a program writes it."""
-    gaps = sorted({gap for gap in map(operator.sub, times[1:], times) if 0 < gap < mode.quiet})
-    if len(gaps) < 3:
+    Stamps on the spacing of a mode are those of a page without any jitter, as a program writes it."""
+    gaps = [gap for gap in map(operator.sub, times[1:], times) if gap > 0]
+    if len(gaps) < FEWEST:
         return None
+    # Among long gaps any two are nearly multiples of something, and the short ones show a grid best.
+    most = SHORT * min(gaps)
+    shortest = sorted({gap for gap in gaps if gap <= most})
     for count in range(1, 9):
-        period = fitted(gaps, count)
+        period = fitted(shortest, count)
         if period and period > mode.tolerance:
-            return None if abs(period - mode.spacing) < 1 else period
+            return None if any(abs(period - each.spacing) < 1 for each in MODES) else period
     return None

@@ -48,7 +48,8 @@ def simpler_letters(fault):
 
 
 def end_with(main, tool):
-    """Does what a tool is for, and ends with its exit status; or with 1 and a line that says why, where its output could not be written."""
+    """Does what a tool is for, and ends with its exit status; or with 1 and a line that says why, where its output could not be written; or by
+    the same signal, where somebody stops it at the keyboard."""
     # A reader that has seen enough, as head, may close the pipe.
     signal.signal(signal.SIGPIPE, signal.SIG_DFL)
     try:
@@ -61,6 +62,10 @@ def end_with(main, tool):
         finally:
             # What main has printed must arrive, also where main ends the tool by itself.
             sys.stdout.flush()
+    except KeyboardInterrupt:
+        # Whoever stops it knows, and what called it hears of it as of any other program.
+        signal.signal(signal.SIGINT, signal.SIG_DFL)
+        os.kill(os.getpid(), signal.SIGINT)
     except OSError as fault:
         # Where a file is named it is that file, and none of the tool's own outputs.
         if fault.filename is not None:

@@ -3,11 +3,17 @@ import itertools
 import re
 from fractions import Fraction
 
-from captures import VCD, Capture, Level, NoCapture, nanoseconds
+from captures import META, VCD, Capture, Level, NoCapture, nanoseconds
 
 UNITS = {'s': Fraction(10 ** 9), 'ms': Fraction(10 ** 6), 'us': Fraction(1000), 'ns': Fraction(1), 'ps': Fraction(1, 1000), 'fs': Fraction(1, 10 ** 6)}
 # sigrok tells the rate of the samples in a comment.
-RATE = re.compile(r'at (\d+(?:\.\d+)?) ([kMG]?)Hz')
+RATE = re.compile(r'Acquisition with \d+/\d+ channels at (\d{1,15}(?:\.\d{1,15})?) ([kMG]?)Hz')
+# A simulator that has reached the limit which it was given says so in a comment, and writes no more.
+LIMIT = re.compile(r'limit\b.*\bexceeded', re.IGNORECASE)
+# Behind a name may stand its bit, or the numbers of its first and last bit.
+NAME = re.compile(r'(.*?)\s*(?:(\[-?\d+\])|\[(-?\d{1,9}):(-?\d{1,9})\])?')
+# More lines than this are no capture's, and would fill the memory.
+MOST_LINES = 65_536
 PREFIXES = {'': 1, 'k': 1000, 'M': 10 ** 6, 'G': 10 ** 9}
 # The values that are known; simulators write weak ones too. All others, x and z among them, are not.
 KNOWN_VALUES = {'0': 0, '1': 1, 'l': 0, 'L': 0, 'h': 1, 'H': 1}
@@ -20,17 +26,22 @@ class Lines:
     """The variables by their codes: the level of each bit, and its names."""
 
     def __init__(self):
-        self.levels, self.names = {}, {}
+        self.levels, self.names, self.count, self.begin = {}, {}, 0, None
 
-    def declare(self, code, width, name):
-        """A variable of so many bits. A second one with the same code is the same line by another name."""
-        self.levels.setdefault(code, [Level() for _ in range(width)])
-        names = [name] if width == 1 else [f'{name}[{width - 1 - place}]' for place in range(width)]
+    def declare(self, code, names):
+        """A variable with a name for each bit, the highest first. A second one with the same code is the same line by another name."""
+        self.levels.setdefault(code, [Level() for _ in names])
         self.names.setdefault(code, []).append(names)
+        self.count += len(names)
 
     def change(self, code, values, time):
         """A variable has these values, the highest bit first."""
+        if self.begin is None:
+            self.begin = time
         for level, value in zip(self.levels[code], extended(values, len(self.levels[code]))):
+            # Of a line that has no value at the beginning none is known until its first.
+            if level.value is None and not level.unknown and time > self.begin:
+                level.take(None, time)
             level.take(KNOWN_VALUES.get(value), time)
 
     def wires(self):
@@ -71,16 +82,28 @@ def unit_of(words, name):
     return int(scale[1]) * UNITS[scale[2]]
 
 
+def bit_names(name, width):
+    """The names of a variable's bits, the highest first: by the numbers that stand behind its name, or else down to 0."""
+    stem, bit, first, last = NAME.fullmatch(name).groups()
+    if width == 1 and not first:
+        return [stem + (bit or '')]
+    if first and abs(int(first) - int(last)) + 1 == width:
+        step = 1 if int(first) <= int(last) else -1
+        return [f'{stem}[{number}]' for number in range(int(first), int(last) + step, step)]
+    return [f'{stem}[{number}]' for number in range(width - 1, -1, -1)]
+
+
 def declared(words, scopes, lines, name):
-    """A $var: type, number of bits, code, and the name. Real numbers and strings are no lines."""
-    if len(words) < 4 or not re.fullmatch(r'[1-9]\d{0,3}', words[1]):
+    """A $var: type, number of bits, code, and the name, which may be missing. Real numbers and strings are no lines."""
+    if len(words) < 3 or not re.fullmatch(r'[1-9]\d{0,3}', words[1]):
         raise NoCapture(f'{name} declares a variable that is none of VCD: {ascii(" ".join(words)[:40])}')
     kind, width, code, *reference = words
-    # Behind a name may stand its bit, or the range of its bits, which are numbered here anyway.
-    bits = reference.pop() if len(reference) > 1 and reference[-1].startswith('[') else ''
-    full = '.'.join([*scopes, ' '.join(reference) + ('' if ':' in bits else bits)])
+    # A name with odd letters begins with a backslash, which is no part of it.
+    reference = ' '.join(reference).removeprefix('\\') or code
     if kind not in ('real', 'realtime', 'string'):
-        lines.declare(code, int(width), full)
+        lines.declare(code, bit_names('.'.join([*scopes, reference]), int(width)))
+    if lines.count > MOST_LINES:
+        raise NoCapture(f'{name} declares more than {MOST_LINES} lines, which is no capture of pages')
     return code
 
 
@@ -111,10 +134,11 @@ def extended(digits, width):
 
 def read_body(words, lines, others, unit, name):
     """Goes through the changes of values. Gives the last time, or nothing where there is none."""
-    time, last, waiting, is_text = None, None, iter(words), False
+    time, last, waiting, is_text, text = None, None, iter(words), False, []
     for word in waiting:
         if is_text:
             is_text = word != '$end'
+            text.append(word)
         elif word[0] == '#':
             last, time = time_of(word, last, name), None
         elif word[0] == '$':
@@ -125,6 +149,8 @@ def read_body(words, lines, others, unit, name):
             change(word, waiting, lines, others, time, name)
     if is_text:
         raise NoCapture(f'{name} ends inside a comment: it is cut, and nothing of it is listed')
+    if LIMIT.search(' '.join(text)):
+        raise NoCapture(f'{name} says itself that a limit was exceeded: it is cut, and nothing of it is listed')
     return None if last is None else nanoseconds(last, unit.numerator, unit.denominator)
 
 
@@ -149,7 +175,7 @@ def change(word, waiting, lines, others, time, name):
 
 def capture(text, name):
     """The wires of a VCD."""
-    head, body = head_of(text, name)
+    head, body = head_of(META.sub('', text, 1) if META.match(text) else text, name)
     unit, lines, others, period = read_head(head, name)
     end = read_body(body, lines, others, unit, name)
     if end is None:

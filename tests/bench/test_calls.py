@@ -4,8 +4,10 @@ import pathlib
 import pty
 import re
 import shutil
+import signal
 import socket
 import subprocess
+import time
 import tty
 
 import pytest
@@ -191,6 +193,55 @@ def test_list_called_through_a_link_of_another_name_and_a_relative_one_works(tmp
     (tmp_path / 'second one').symlink_to('first')
     done = subprocess.run(['./second one', GOOD], cwd=tmp_path, capture_output=True, timeout=SECONDS, env=ENVIRONMENT)
     assert done.returncode == 0 and done.stdout.decode() == ran('list', GOOD).out
+
+
+@pytest.mark.parametrize('form, content, words', [
+    ('vcd', GOOD.read_bytes(), 'our bytes'), ('csv', GOOD.read_bytes(), 'our bytes'), ('sr', vcd(PAGE).encode(), 'VCD'), ('bytes', vcd(PAGE).encode(), 'VCD'),
+    ('vcd', saleae(PAGE).encode(), 'CSV')])
+def test_a_format_that_is_named_wrongly_is_said_to_be_the_cause(form, content, words):
+    found = ran('list', '--format', form, file_of(content))
+    assert_one_complaint(found)
+    assert f'--format {form}' in found.err and words in found.err and 'damaged' not in found.err
+
+
+def test_our_bytes_have_no_wire_to_choose():
+    found = ran('list', '--wire', 'line', GOOD)
+    assert_one_complaint(found)
+    assert 'leave --wire out' in found.err
+
+
+@pytest.mark.parametrize('content, words', [(b'', 'record or export it anew'), (b'\2\0\0\0\0', 'export it as one of these'), (b'\0\0', '1 byte too many'),
+                                            (b'\0\0\0', '2 bytes too many'), (b'\1' + bytes(7), '3 bytes too many'), (b'\1' + bytes(7), 'copy or record it anew')])
+def test_a_refusal_says_what_is_wrong_and_what_to_do(content, words):
+    found = ran('list', file_of(content))
+    assert_one_complaint(found)
+    assert words in found.err and re.fullmatch(r'refused 1[45]\n', found.out)
+
+
+@pytest.mark.parametrize('still, is_listed', [(7, True), (12, False)])
+def test_our_bytes_whose_clock_mostly_stands_still_are_raw_samples(still, is_listed):
+    """Of 20 gaps; the readings have few different bytes, as samples have."""
+    readings = [0]
+    for number in range(20):
+        readings.append(readings[-1] + (0 if number < still else 1))
+    content = bytes([0]) + b''.join(reading.to_bytes(4, 'little') for reading in readings)
+    found = ran('list', file_of(content))
+    assert (found.status, 'raw samples' in found.err) == ((0, False) if is_listed else (1, True))
+    assert ran('list', '--plain', file_of(content)).status == ran('list', '--format', 'bytes', file_of(content)).status == 0
+
+
+@pytest.mark.parametrize('tool, arguments', [('list', []), ('messages', []), ('show', ['-o', 'picture.svg'])])
+def test_a_tool_that_is_stopped_at_the_keyboard_ends_by_that_signal_without_a_word(tool, arguments, tmp_path):
+    """As any other program does, so that a shell's loop over many captures ends too. It waits for its input meanwhile."""
+    reader, writer = os.pipe()
+    with subprocess.Popen([TOOLS / tool, *arguments], stdin=reader, stdout=subprocess.PIPE, stderr=subprocess.PIPE, env=ENVIRONMENT, cwd=tmp_path) as running:
+        # Once it has closed all but its input it reads; a second is ample.
+        time.sleep(1)
+        running.send_signal(signal.SIGINT)
+        out, err = running.communicate(timeout=SECONDS)
+    os.close(reader)
+    os.close(writer)
+    assert (running.returncode, out, err) == (-signal.SIGINT, b'', b'')
 
 
 @pytest.fixture

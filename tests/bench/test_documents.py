@@ -33,7 +33,7 @@ def test_the_readme_has_a_line_for_every_tool_that_a_person_on_the_bench_calls()
 def test_the_readme_tells_the_rates_that_the_tools_ask_for():
     """The figures of "How fast must you sample" are those that the warning is given by."""
     text = ' '.join((ROOT / 'README.md').read_text().partition('### How fast must you sample')[2].partition('\n#')[0].split())
-    assert '**125 MS/s or more for HSM, 5 MS/s or more for LSM**' in text
+    assert '**at least 125 MS/s for HSM and 5 MS/s for LSM, better 250 and 10**' in text
     assert f'what is needed is {needed(HSM):g} and {needed(LSM):g} MS/s' in text
     assert not is_coarse(HSM, 8) and not is_coarse(LSM, 200) and not is_coarse(LSM, 250)
     assert is_coarse(HSM, 10) and is_coarse(HSM, 1000 / 24) and is_coarse(LSM, 500)

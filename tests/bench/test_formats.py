@@ -1,12 +1,15 @@
 """Each format there and back: a page that the proved program wrote lists as that page with the same edges, whatever sigrok-cli made of it."""
+import os
 import re
 import subprocess
+import sys
+import zipfile
 from fractions import Fraction
 
 import pytest
 
 import plain_reader
-from bench_tools import ENVIRONMENT, ROOT, SCRATCH, TOOLS, file_of, plain, ran, result, told
+from bench_tools import ENVIRONMENT, ROOT, SCRATCH, TOOLS, assert_one_note, file_of, plain, ran, result, told
 from made_captures import edges_in, own_bytes, pages_apart, saleae, seeded, session_of_samples, session_of_vcd, sigrok, vcd, written_page
 from plain_reader import HSM, LSM, MODES
 
@@ -72,7 +75,7 @@ def test_a_session_made_of_it_lists_as_that_page(made):
 
 
 def test_a_vcd_made_by_sigrok_from_a_session_made_from_write_page_lists_as_the_page(made):
-    """The sentence of the issue, by the real command."""
+    """From us to sigrok and back twice, by the real command."""
     mode, _, session = made
     listed = ran('list', file_of(sigrok('-i', session, '-O', 'vcd'), 'of-session.vcd'))
     assert listed.status == 0
@@ -224,6 +227,51 @@ def test_channels_that_sigrok_names_by_numbers_list_as_their_wires(output):
     expected = plain_reader.text(HSM, [time + time % 2 for time in edges])
     for wire in None, '2':
         assert plain(sigrok('-i', session, '-O', output), wire=wire) == expected
+
+
+def changed_session(session, change):
+    """A session whose description was changed, as another program may write it."""
+    path = SCRATCH / 'changed.sr'
+    with zipfile.ZipFile(session) as old, zipfile.ZipFile(path, 'w') as new:
+        for entry in old.namelist():
+            content = old.read(entry)
+            new.writestr(entry, change(content.decode()).encode() if entry == 'metadata' else content)
+    return path
+
+
+def test_the_wires_of_a_session_have_the_names_that_a_person_gave_them(made):
+    """sigrok-cli puts a scope of its own ahead of them."""
+    mode, _, session = made
+    assert_is_the_page(result(session, wire='line'), mode)
+    assert 'it has line (' in result(session, wire='none').notes[0]
+
+
+def test_a_session_with_voltages_lists_as_its_wires():
+    """sigrok's demo device has eight wires and five voltages, which sigrok-cli writes into a VCD where none belong."""
+    session = sigrok('-d', 'demo', '--samples', '500', output=SCRATCH / 'demo.sr')
+    found = ran('list', '--wire', 'D0', session)
+    assert found.status == 0 and int(found.out.split()[3]) > 10
+
+
+@pytest.mark.parametrize('rate', ['-5 MHz', '', '0x10 Hz', 'fast'])
+def test_a_session_with_a_rate_that_is_none_is_said_to_have_none(made, rate):
+    """sigrok-cli would go on for ever with the first of them."""
+    _, _, session = made
+    found = result(changed_session(session, lambda text: re.sub('samplerate=.*', f'samplerate={rate}', text)))
+    assert_one_note(found)
+    assert 'how fast' in found.notes[0]
+
+
+def test_a_sigrok_that_does_not_end_is_ended(made, monkeypatch, tmp_path):
+    _, _, session = made
+    program = tmp_path / 'sigrok-cli'
+    program.write_text('#!/bin/sh\nexec sleep 600\n')
+    program.chmod(0o755)
+    monkeypatch.setenv('PATH', f'{tmp_path}:{os.environ["PATH"]}')
+    monkeypatch.setattr(sys.modules['sigrok_sessions'], 'SECONDS', 1)
+    found = result(session)
+    assert_one_note(found)
+    assert 'nothing of it is listed' in found.notes[0]
 
 
 FORMS = {'vcd': lambda: vcd(edges_of_page(HSM)), 'csv': lambda: saleae(edges_of_page(HSM)), 'capture': lambda: own_bytes(HSM, edges_of_page(HSM)),

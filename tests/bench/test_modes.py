@@ -46,6 +46,25 @@ def test_our_bytes_with_the_wrong_mode_byte_are_listed_as_they_say_and_a_note_sa
 
 
 @BOTH
+@pytest.mark.parametrize('form', [vcd, lambda edges: own_bytes(HSM, edges), lambda edges: own_bytes(LSM, edges)], ids=['VCD', 'as HSM', 'as LSM'])
+def test_a_mode_that_is_asked_for_and_reads_nothing_where_the_other_reads_pages_is_said(mode, form):
+    found = result(form(edges_of(mode)), mode=other(mode).name)
+    assert found.text.startswith(f'mode {other(mode).name} ')
+    note, = found.notes
+    assert '3 pages' in note and f'--mode {mode.name}' in note
+    assert result(form(edges_of(mode)), mode=mode.name).notes == []
+
+
+@BOTH
+@pytest.mark.parametrize('step', [1, 2, 3, 4])
+def test_a_line_that_neither_mode_reads_is_listed_in_the_mode_whose_gaps_it_has(mode, step):
+    """Gaps of any number of positions, none of them a page's."""
+    edges = list(range(1000, 1000 + 200 * step * mode.spacing, step * mode.spacing))
+    found = result(vcd(edges))
+    assert found.text.startswith(f'mode {mode.name} ') and f'--mode {other(mode).name}' in found.notes[0]
+
+
+@BOTH
 def test_our_bytes_in_a_mode_that_is_asked_for_are_listed_in_that_one(mode):
     content = own_bytes(other(mode), edges_of(mode))
     assert plain(content, mode=mode.name) == plain_reader.text(mode, edges_of(mode))
@@ -67,7 +86,15 @@ def test_noise_is_said_to_be_read_by_neither_mode():
     assert plain(vcd(edges)) in [plain_reader.text(mode, edges) for mode in MODES]
 
 
-@pytest.mark.parametrize('edges', [[], [500], [500, 530]])
+@pytest.mark.parametrize('wires, words', [('0!\n', 'top.line has no edge'), ('0!\n0"\n#30\n1"\n', 'top.line has no edge; it has top.other (1 edge)')])
+def test_a_wire_without_an_edge_is_said_to_have_none_and_those_with_edges_are_named(wires, words):
+    head = vcd([]).partition('#')[0].replace('$upscope', '$var wire 1 " other $end\n$upscope')
+    found = result(head + '#0\n' + wires, wire='line')
+    assert (found.status, found.text) == (0, 'mode LSM edges 0\npages 0 bad 0\n')
+    assert [note for note in found.notes if words in note]
+
+
+@pytest.mark.parametrize('edges', [[500], [500, 530]])
 def test_a_line_with_hardly_an_edge_is_said_to_be_read_by_neither_mode(edges):
     found = result(vcd(edges, 1000))
     assert found.status == 0 and any('neither' in note for note in found.notes)

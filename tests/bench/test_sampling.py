@@ -7,7 +7,7 @@ import pytest
 
 import plain_reader
 from bench_tools import ran, result, told
-from made_captures import edges_in, own_bytes, pages_apart, sampled, saleae, session_of_samples, sigrok, vcd
+from made_captures import edges_in, own_bytes, pages_apart, sampled, saleae, seeded, session_of_samples, sigrok, vcd
 from plain_reader import HSM, LSM, MODES
 
 WORDS = [0x850001, 0xA90001, 0x5A8F00F1E2A1, 0xFFFFFFFFFFFF, 0]
@@ -24,8 +24,8 @@ def label(value):
     return value.name if isinstance(value, plain_reader.Mode) else None
 
 
-def samples_of(mode, rate, phase, drift):
-    edges = pages_apart(mode, WORDS, 5 * mode.quiet)
+def samples_of(mode, rate, phase, drift, words=WORDS):
+    edges = pages_apart(mode, words, 5 * mode.quiet)
     return sampled(edges, 1000 / rate, phase, drift, edges[-1] + 5 * mode.quiet)
 
 
@@ -57,7 +57,8 @@ def test_at_a_rate_that_is_fine_enough_every_page_is_read_without_a_warning(mode
 def test_at_a_rate_that_is_too_coarse_a_warning_names_it_and_what_is_needed_and_why(mode, rate, phase, drift, chosen):
     found = result(as_session(samples_of(mode, rate, phase, drift), rate), **({'mode': mode.name} if chosen else {}))
     assert found.status == 0 and found.text.startswith(f'mode {mode.name} ')
-    warning, = warnings(found)
+    # Where no page is read and nobody says the mode, the other one may be meant, and is warned of too.
+    warning, = [warning for warning in warnings(found) if f'for {mode.name}:' in warning]
     assert re.search(rf'\b{rate} MS/s', warning)
     assert re.search(NEEDED[mode], warning)
     assert re.search(rf'\b{mode.tolerance} ns', warning)
@@ -88,6 +89,37 @@ def test_times_that_stand_on_a_coarse_grid_are_warned_of_though_nothing_tells_th
     assert abs(float(re.search(r'([\d.]+) MS/s', warning)[1]) / rate - 1) < 0.01
 
 
+VERY_COARSE = [(HSM, rate) for rate in (80, 62.5, 32, 20, 16, 12.5, 12, 10, 8, 5, 4, 2, 1)] + [(LSM, rate) for rate in (3, 1.5, 0.5, 0.25, 0.1)]
+
+
+@pytest.mark.parametrize('mode, rate', VERY_COARSE, ids=label)
+@pytest.mark.parametrize('form', [lambda samples, rate: saleae(edges_in(samples, Fraction(1000) / Fraction(rate))), as_session, as_csv],
+                         ids=['times', 'session', 'samples'])
+def test_however_coarse_the_samples_are_the_mode_that_they_are_too_coarse_for_is_named(mode, rate, form):
+    """Nobody says the mode. Some of these rates leave nothing of a page, or make a page of HSM look like noise in LSM."""
+    found = result(form(samples_of(mode, rate, 0.37, 50e-6, WORDS * 6), rate))
+    assert found.status == 0 and found.bad
+    assert any(f'too coarse for {mode.name}:' in warning and re.search(NEEDED[mode], warning) for warning in warnings(found)), found.notes
+
+
+@pytest.mark.parametrize('rate, least, most', [(125, 0.4, 0.9), (250, 1, 1)])
+def test_with_jitter_of_1_ns_some_pages_are_lost_at_125_ms_and_none_at_250(rate, least, most):
+    """What README says of it: the transitions are off by 1 ns in the mean square."""
+    chance, count = seeded(rate), 60
+    words, edges = [chance.getrandbits(48) for _ in range(count)], [1000.0]
+    for word in words:
+        edges += [time + chance.gauss(0, 1) for time in plain_reader.page(HSM, word, edges[-1] + 1000 + chance.random() * 30)]
+    found = plain_reader.text(HSM, edges_in(sampled(edges[1:], 1000 / rate, 0.37, 50e-6), Fraction(1000, rate)))
+    assert least * count <= found.count(' good ') <= most * count
+
+
+@pytest.mark.parametrize('off', ['8.3', '41.7', '1000', '2000'])
+def test_how_far_a_gap_may_be_off_is_the_whole_period(off):
+    rate = {'8.3': '120.48M', '41.7': '24M', '1000': '1M', '2000': '500k'}[off]
+    notes = result('line\n' + '0\n0\n1\n' * 40, rate=rate, mode='HSM' if off in ('41.7', '8.3') else 'LSM').notes
+    assert any(f'up to {off} ns too short or too long' in note for note in notes) == (off != '8.3')
+
+
 @pytest.mark.parametrize('mode, rate', FINE, ids=label)
 def test_times_that_stand_on_a_fine_grid_are_not_warned_of(mode, rate):
     edges = edges_in(samples_of(mode, rate, 0.37, 50e-6), Fraction(1000, rate))
@@ -99,6 +131,13 @@ def test_pages_as_they_are_written_and_our_bytes_are_never_warned_of(mode):
     edges = pages_apart(mode, WORDS, 5 * mode.quiet)
     for content in vcd(edges), saleae(edges), own_bytes(mode, edges), own_bytes(mode, edges[:-1]), vcd(edges[:-5]):
         assert warnings(result(content, mode=mode.name)) == []
+
+
+def test_a_grid_of_times_alone_is_no_warning_where_every_page_is_read():
+    """At 100 MS/s a page whose transitions stand on samples is read, and nothing says that it was sampled at all."""
+    edges = [round(time / 10) * 10 for time in pages_apart(HSM, WORDS, 5 * HSM.quiet)]
+    found = result(saleae(edges), mode='HSM')
+    assert found.bad == 0 and warnings(found) == []
 
 
 def test_a_capture_at_24_ms_is_warned_of_by_the_command_on_standard_error():

@@ -62,7 +62,8 @@ def test_a_wire_that_is_asked_for_is_listed_also_where_it_has_no_edges():
 def test_where_it_is_not_clear_which_wire_the_message_names_them(wire):
     found = result(HEAD + body(clock=PAGE, left=PAGE, right=[700, 900]), wire=wire)
     assert_one_note(found)
-    for name in 'top.clock', 'top.left.line', 'top.right.line':
+    # Where a name fits two wires, these are named.
+    for name in ('top.clock' if wire != 'line' else '', 'top.left.line', 'top.right.line'):
         assert name in found.notes[0]
 
 
@@ -199,8 +200,68 @@ def test_codes_of_many_letters_are_told_apart():
 
 
 def test_escaped_names_are_wires_too():
+    """The backslash only says that odd letters follow, and is no part of the name."""
     head = HEAD.replace('1 # line', r'1 # \line.one')
-    assert plain(head + body(right=PAGE, clock=[5]), wire=r'top.right.\line.one') == LISTED
+    assert plain(head + body(right=PAGE, clock=[5]), wire='top.right.line.one') == LISTED
+
+
+@pytest.mark.parametrize('range_words, wire, wrong', [(' [0:3]', '[0]', '[3]'), ('[0:3]', '[0]', '[3]'), (' [3:0]', '[3]', '[0]'), (' [7:4]', '[7]', '[3]'),
+                                                      ('', '[3]', '[0]'), (' [-2:1]', '[-2]', '[2]'), (' [9:0]', '[3]', '[9]')])
+def test_the_bits_of_a_vector_have_the_numbers_that_its_range_gives_them(range_words, wire, wrong):
+    """The first digit is that of the first number. A range of another width than the vector says nothing."""
+    head = HEAD.replace('1 $ still', f'4 $ bus{range_words}')
+    changes = ''.join(f'#{time}\nb{number % 2}000 $\n' for number, time in enumerate(PAGE, 1))
+    text = head + '#0\nb0000 $\n' + changes
+    assert plain(text, wire=f'bus{wire}') == LISTED
+    if wrong in ('[2]', '[9]') or wire == '[7]':
+        assert_one_note(result(text, wire=f'bus{wrong}'))
+    else:
+        assert plain(text, wire=f'bus{wrong}', mode='HSM') == 'mode HSM edges 0\npages 0 bad 0\n'
+
+
+@pytest.mark.parametrize('high, low', [('1', '0'), ('h', 'l'), ('H', 'L'), ('1', 'L'), ('h', '0')])
+def test_weak_values_are_values(high, low):
+    changes = ''.join(f'#{time}\n{high if number % 2 else low}!\n' for number, time in enumerate(PAGE, 1))
+    assert plain(vcd([]) + changes) == LISTED
+
+
+@pytest.mark.parametrize('digits', ['x', 'xx', 'z', 'x0', 'x00'])
+def test_an_unknown_value_of_a_vector_fills_the_bits_in_front_of_it(digits):
+    """Where digits are left out a 0 or a 1 is followed by zeros in front, and an x or z by itself."""
+    head = HEAD.replace('1 $ still', '4 $ bus')
+    found = result(head + f'#0\nb0000 $\n#100\nb{digits} $\n#130\nb1000 $\n', wire='bus[3]', mode='HSM')
+    assert found.text.startswith('mode HSM edges 1\n') and any('1 time' in note for note in found.notes)
+
+
+@pytest.mark.parametrize('changes, times', [('x!\n#20\n1!', '1 time'), ('x!\n#20\nz!\n#30\n1!\n#40\nx!\n#50\n0!', '3 times')])
+def test_how_often_a_wire_was_unknown_is_told(changes, times):
+    assert any(times in note for note in result(vcd([]) + f'#10\n{changes}\n', mode='HSM').notes)
+
+
+def test_a_wire_whose_first_value_comes_late_is_said_to_have_been_unknown():
+    text = HEAD + '#0\n0!\n0"\n0$\n#100\n1#\n#130\n0#\n#160\n1#\n'
+    found = result(text, wire='top.right.line', mode='HSM')
+    assert found.text.startswith('mode HSM edges 2\n') and any('1 time' in note for note in found.notes)
+
+
+def test_a_dump_that_says_that_its_limit_was_exceeded_is_cut():
+    found = result(vcd(PAGE) + '$comment Dump file limit (600 bytes) exceeded. $end\n')
+    assert_one_note(found)
+    assert 'cut' in found.notes[0]
+
+
+def test_a_comment_that_names_another_clock_is_no_rate_of_samples():
+    found = result('$comment PLL runs at 25 MHz $end\n' + vcd(PAGE))
+    assert not any('coarse' in note for note in found.notes)
+
+
+def test_more_lines_than_a_capture_has_are_refused_at_once():
+    many = ''.join(f'$var wire 9999 a{number} v $end\n' for number in range(300))
+    assert_one_note(result(f'$timescale 1 ns $end\n{many}$enddefinitions $end\n#0\n'))
+
+
+def test_a_wire_without_a_name_is_called_by_its_code():
+    assert plain(HEAD.replace('1 # line', '1 #') + body(right=PAGE, clock=[5]), wire='#') == LISTED
 
 
 def test_a_time_that_goes_back_is_said():
