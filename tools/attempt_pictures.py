@@ -3,7 +3,7 @@ delimiter and D0-D15, D16-D47, and the check bits with the end of the page. Wher
 once more, enlarged, with the windows in which a transition may come."""
 from attempt_details import details_of
 from attempt_lens import lens_part
-from attempt_rows import LEAD, ON, row_part
+from attempt_rows import DROPPED, LEAD, ON, row_part
 from line_modes import FIRST_CLOCK
 from picture_heads import plural, title_part
 from picture_style import FAINT, FIT, FIT_EDGE, INK, LEFT, PALE, PAPER, QUIET_HATCH, RIGHT, Part, brief_time, drawn, width_of, wrapped
@@ -72,11 +72,12 @@ def legend_part():
             canvas.marks([x], y, shape, 4.5, fill)
             canvas.text(x + 0.1, y, words, LEGEND_SIZE, level='center_baseline')
             x += 0.32 + width_of(words, LEGEND_SIZE)
-        for fill, edge, hatch, words in ((FIT, FIT_EDGE, None, 'where a transition fits a page'), (PAPER, PALE, QUIET_HATCH, 'quiet'),
-                                         (PALE, 'none', None, 'dropped until the line is quiet')):
+        for fill, edge, hatch, words in ((FIT, FIT_EDGE, None, 'where a transition fits a page'), (PAPER, PALE, QUIET_HATCH, 'quiet')):
             canvas.box(x, x + 0.2, y - 0.05, y + 0.05, fill, edge, hatch)
             canvas.text(x + 0.27, y, words, LEGEND_SIZE, level='center_baseline')
             x += 0.5 + width_of(words, LEGEND_SIZE)
+        canvas.line([x, x + 0.07, x + 0.07, x + 0.14, x + 0.14, x + 0.2], [y - 0.05] * 2 + [y + 0.05] * 2 + [y - 0.05] * 2, DROPPED, 0.8)
+        canvas.text(x + 0.27, y, 'dropped until the line is quiet', LEGEND_SIZE, level='center_baseline')
         canvas.text(RIGHT, y, 'times count from the beginning of the attempt', LEGEND_SIZE, FAINT, 'right', level='center_baseline')
     return Part(0.26, draw)
 

@@ -20,6 +20,8 @@ BIT_SIZE, FIELD_SIZE, SMALL, TELL_SIZE = 8, 7.5, 6.5, 9
 MOST_DROPPED = 400
 LONG_NAMES = {'S': 'selector S', 'E': 'echoed nonce E', 'T': 'nonce T'}
 WRONG = '#ffd0d0'
+# The line where nobody reads it.
+DROPPED = '#9a9a9a'
 
 
 class Row(NamedTuple):
@@ -48,9 +50,13 @@ class Row(NamedTuple):
 
     def places(self):
         """The places among the 64 bits that stand in this row and are known, each with the two times that it stands between."""
-        when, known = self.detail.when, len(self.detail.walk.bits())
-        return {place: (when[FIRST_CLOCK + 2 * place], when[FIRST_CLOCK + 2 * place + 2]) for place in range(known)
-                if self.first <= FIRST_CLOCK + 2 * place < self.last}
+        when, found = self.detail.when, {}
+        for place in range(len(self.detail.walk.bits())):
+            clock = FIRST_CLOCK + 2 * place
+            if self.first <= clock < self.last:
+                # Behind the last transition of an attempt the next clock may be missing.
+                found[place] = when[clock], when[clock + 2] if clock + 2 in when else when[clock + 1] + self.detail.mode.spacing
+        return found
 
 
 def wave(times, level, x, y_low, y_high):
@@ -218,9 +224,11 @@ def draw_dropped(canvas, row, since, level):
     else:
         xs, ys = wave(inside, level, row.x, bottom, top)
         flat = top if level else bottom
-        canvas.line([start, *xs, end], [flat, *ys, ys[-1] if ys else flat], '#9a9a9a', 0.8)
-    words = f'{plural(len(times), "edge")} dropped'
-    canvas.text(min(start + 0.12, RIGHT - width_of(words, FIELD_SIZE)), row.y(BITS), words, FIELD_SIZE, FAINT)
+        canvas.line([start, *xs, end], [flat, *ys, ys[-1] if ys else flat], DROPPED, 0.8)
+    words = f'{plural(len(times), "edge")} dropped' + (f', the last {len(times) - len(inside)} not drawn' if len(inside) < len(times) else '')
+    # Behind a data transition its one stands a little further on.
+    left = start + (0.24 if row.last % 2 == 0 and row.last > FIRST_CLOCK else 0.12)
+    canvas.text(min(left, RIGHT - width_of(words, FIELD_SIZE)), row.y(BITS), words, FIELD_SIZE, FAINT)
 
 
 def draw_end_of_page(canvas, row):
@@ -277,20 +285,28 @@ def draw_check(canvas, row):
     """What was read and what was due, over the check bits."""
     word, check = read_bits(row.detail.walk.bits())
     due = number_of(reversed(due_bits(row.detail.walk.bits())))
-    centre = (row.x(row.begin) + row.x(row.detail.when[END])) / 2
-    tell(canvas, row, centre, f'check bits {check:04x} were read; to the word {word:012x} belong {due:04x}', is_marked=False)
+    place, centre = explained_by(row.detail.walk.bits()), (row.x(row.begin) + row.x(row.detail.when[END])) / 2
+    words = f'check bits {check:04x} were read; to the word {word:012x} belong {due:04x}'
+    if place is not None and place >= WORD_BITS:
+        change, name = change_at(row, place)
+        words += f': one transition {change} at {name} would explain it'
+    tell(canvas, row, centre, words, is_marked=False)
     draw_end_of_page(canvas, row)
 
 
-def draw_explanation(canvas, row, place):
-    """The one bit that would explain wrong check bits."""
-    before, after = row.places()[place]
-    centre = (row.x(before) + row.x(after)) / 2
-    canvas.box(row.x(before), row.x(after), row.y(WAVE), row.y(0), 'none', ALARM, width=1.6)
+def change_at(row, place):
+    """What must have become of a bit's transition, and the bit's name."""
     name = f'D{place}' if place < WORD_BITS else f'S{WORD_BITS + CHECK_BITS - 1 - place}'
-    change = 'added' if row.detail.walk.bits()[place] else 'lost'
+    return 'added' if row.detail.walk.bits()[place] else 'lost', name
+
+
+def draw_explanation(canvas, row, place):
+    """The one bit that would explain wrong check bits. Of a check bit the words stand with those."""
+    before, after = row.places()[place]
+    canvas.box(row.x(before), row.x(after), row.y(WAVE), row.y(0), 'none', ALARM, width=1.6)
     if place < WORD_BITS:
-        tell(canvas, row, centre, f'one transition {change} here, at {name}, would explain it')
+        change, name = change_at(row, place)
+        tell(canvas, row, (row.x(before) + row.x(after)) / 2, f'one transition {change} here, at {name}, would explain it')
 
 
 ENDS = {'good': draw_end_of_page, 'gap': draw_gap, 'cut': draw_cut, 'check': draw_check}

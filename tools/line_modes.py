@@ -53,9 +53,10 @@ class Walk(NamedTuple):
     missed: int | None
 
     def bits(self):
-        """The data bits that are known, D0 first and the check bits behind D47: a one has a transition between two clocks."""
+        """The data bits that are known, D0 first and the check bits behind D47: a one has a transition between two clocks, the last one perhaps
+        no clock behind it."""
         ones = set(self.at)
-        return [int(place in ones) for place in range(FIRST_CLOCK + 1, self.at[-1], 2) if place < END]
+        return [int(place in ones) for place in range(FIRST_CLOCK + 1, self.at[-1] + 1, 2) if place < END]
 
 
 def wanted_after(mode, position):

@@ -240,14 +240,24 @@ def bad_lines(listing):
     return wrapped(f'bad (--attempt N draws one): {in_ranges(bad[:MOST_NAMED])}{more}', RIGHT - LEFT, LEGEND_SIZE) if bad else []
 
 
-def legend_part(sheet, drawn_in):
+def scale_words(sheet, most):
+    """How an overview is to be read."""
+    length, track = brief_time(int(sheet.length)), sheet.track
+    if track.silences:
+        yield f'a row is {length} long without what silences are cut down by, and its times count from its beginning'
+        yield f'a silence of more than {brief_time(track.longest)} is cut down to {brief_time(track.kept)} and hatched'
+    else:
+        yield f'a row is {length} long, and its times count from its beginning'
+    if sheet.is_counted:
+        yield f'the height of a bar is the number of attempts that begin there, {most} at the most'
+    elif any(told.dropped for told in sheet.subject.told):
+        yield 'a thin grey band is of edges that were dropped'
+
+
+def legend_part(sheet, drawn_in, most):
     """What the lanes are, how many attempts each has, and which attempts to look at."""
     lines = bad_lines(sheet.subject.listing)
-    lines += wrapped(f'a row is {brief_time(int(sheet.length))} long, its times count from its beginning'
-                     + (f'; a silence of more than {brief_time(sheet.track.longest)} is cut down to {brief_time(sheet.track.kept)} and hatched'
-                        if sheet.track.silences else '')
-                     + ('; the height of a bar is the number of attempts that begin there' if sheet.is_counted else '')
-                     + f'; {drawn_in}', RIGHT - LEFT, LEGEND_SIZE)
+    lines += wrapped('; '.join([*scale_words(sheet, most), drawn_in]), RIGHT - LEFT, LEGEND_SIZE)
 
     def draw(canvas, top):
         canvas.line([LEFT, RIGHT], [top] * 2, PALE, 0.6)
@@ -274,4 +284,4 @@ def overview(subject, numbers, page_name):
     most = most_in_column(sheet, rows) if sheet.is_counted else 1
     detail = f'in detail in {page_name}: {in_ranges(numbers)}'
     parts = [row_part(sheet, sheet.length * number, attempts, most) for number, attempts in enumerate(rows)]
-    return drawn([title_part(subject, ['overview of all attempts']), Part(0.1, lambda canvas, top: None), *parts, legend_part(sheet, detail)])
+    return drawn([title_part(subject, ['overview of all attempts']), Part(0.1, lambda canvas, top: None), *parts, legend_part(sheet, detail, most)])

@@ -1,11 +1,11 @@
 """What tools/show writes and says. How its pictures look was looked at; that those in docs/pictures are still what it draws, tools/show --check says."""
 import pathlib
-import re
 import subprocess
 import sys
-from xml.etree import ElementTree
 
 import pytest
+
+from drawn_pictures import texts
 
 ROOT = pathlib.Path(__file__).resolve().parents[2]
 sys.path.insert(0, str(ROOT / 'tools'))
@@ -36,12 +36,6 @@ def show(folder, *words, stdin=subprocess.DEVNULL):
     return ended.returncode, ended.stderr
 
 
-def texts(path):
-    """The words in an SVG, which must be well-formed: matplotlib keeps them as comments beside the outlines of the letters."""
-    ElementTree.parse(path)
-    return re.findall(r'<!-- (.*?) -->', path.read_text())
-
-
 def saved(folder, mode, times):
     path = folder / 'some.capture'
     path.write_bytes(as_bytes(mode, times))
@@ -57,7 +51,7 @@ def test_every_sample_is_drawn_in_both_modes(tmp_path, sample, mode):
 
 
 @pytest.mark.parametrize('sample, words', [
-    ('gap-hsm', 'gap of 44 ns, where 21-39 ns fits (1 position)'), ('gap-hsm', '44 ns: 5 ns too long'), ('gap-hsm', '56 edges dropped'),
+    ('gap-hsm', 'gap of 44 ns, where 21-39 ns fits (1 position)'), ('gap-hsm', '44 ns: 5 ns too long'), ('gap-hsm', '56 edges dropped, the last 22 not drawn'),
     ('cut-lsm', 'it came to position 95 of 157, at D34: then the capture ends'), ('check-hsm', 'one transition lost here, at D0, would explain it'),
     ('check-hsm', 'check bits 14bb were read; to the word 000000850000 belong 9430'), ('tired-hsm', 'nonce T = 5')])
 def test_what_is_wrong_stands_in_the_picture(tmp_path, sample, words):
@@ -84,7 +78,7 @@ def test_an_overview_comes_where_not_all_attempts_are_drawn(tmp_path):
 
 
 def test_a_line_without_attempts_and_one_with_a_single_edge(tmp_path):
-    assert show(tmp_path, saved(tmp_path, LSM, []), '-o', 'page.svg') == (0, '')
+    assert show(tmp_path, saved(tmp_path, LSM, []), '-o', 'page.svg') == (0, 'tools/show: the line has no edge\n')
     assert 'the line has no edges: no attempt to read a page as LSM' in texts(tmp_path / 'page.svg')
     assert show(tmp_path, saved(tmp_path, HSM, [7]), '-o', 'page.svg') == (0, '')
     assert 'it came to position 1 of 157, in the delimiter: then the capture ends' in texts(tmp_path / 'page.svg')
