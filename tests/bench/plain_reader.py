@@ -6,6 +6,8 @@ CLOCK = 2 ** 32
 LAST = 157
 DATA = range(28, 155, 2)
 WORD_BITS = 48
+# The bit at each place for data: D0 comes first, and of the check bits S15.
+BIT_AT = dict(zip(DATA, [*(f'D{bit}' for bit in range(48)), *(f'S{bit}' for bit in range(15, -1, -1))]))
 
 
 class Mode(NamedTuple):
@@ -92,6 +94,11 @@ class Attempt(NamedTuple):
 def fitting_step(mode, gap, steps):
     """The step among those that may come which a gap counts as, or nothing."""
     return next((step for step in steps if mode.window(step)[0] <= gap <= mode.window(step)[1]), None)
+
+
+def positions_in(mode, gap):
+    """How many positions a gap counts as, wherever it stands, or nothing where it is unfit or quiet."""
+    return fitting_step(mode, gap, range(1, 5)) if gap < mode.quiet else None
 
 
 def bits_at(places):

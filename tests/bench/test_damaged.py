@@ -3,6 +3,7 @@ said on one line; nothing makes the tool show its inside."""
 import functools
 import re
 import zipfile
+import zlib
 
 import pytest
 
@@ -127,6 +128,46 @@ def test_a_session_that_lacks_samples_is_said_to_be_cut(tmp_path):
             if name != parts[1]:
                 less.writestr(name, archive.read(name))
     assert_one_note(result(tmp_path / 'less.sr'))
+
+
+def places_in(archive, name):
+    """From where to where the bytes of a file stand in an archive: behind its head of 30 bytes, its name, and what else the head tells of."""
+    with zipfile.ZipFile(archive) as opened:
+        entry = opened.getinfo(name)
+    head = archive.read_bytes()[entry.header_offset:][:30]
+    first = entry.header_offset + 30 + int.from_bytes(head[26:28], 'little') + int.from_bytes(head[28:30], 'little')
+    return range(first, first + entry.compress_size)
+
+
+def samples_in(archive):
+    """The samples of a session, or nothing where they cannot be had as they were."""
+    try:
+        with zipfile.ZipFile(archive) as opened:
+            return opened.read('logic-1-1')
+    except (zipfile.BadZipFile, zlib.error, EOFError):
+        return None
+
+
+@pytest.mark.parametrize('change', [0x01, 0x80], ids=hex)
+@pytest.mark.parametrize('kept', [zipfile.ZIP_STORED, zipfile.ZIP_DEFLATED], ids=['stored', 'compressed'])
+def test_a_session_with_a_byte_of_its_samples_changed_is_not_listed(tmp_path, kept, change):
+    """A changed sample may be an edge that never was on the line. sigrok-cli takes it, but the archive has a sum of each file, which shows it."""
+    path = tmp_path / 'session.sr'
+    with zipfile.ZipFile(SCRATCH / 'small.sr') as archive, zipfile.ZipFile(path, 'w', kept) as other:
+        for name in archive.namelist():
+            other.writestr(name, archive.read(name))
+    content, samples, places = path.read_bytes(), samples_in(path), places_in(path, 'logic-1-1')
+    assert result(path, mode='HSM', plain=True).text == plain_reader.text(HSM, EDGES)
+    tried = 0
+    for place in places[::7 if kept == zipfile.ZIP_STORED else 1]:
+        path.write_bytes(content[:place] + bytes([content[place] ^ change]) + content[place + 1:])
+        # A few bits of compressed bytes say nothing, and the samples stay as they were.
+        if samples_in(path) != samples:
+            found = result(path, mode='HSM', plain=True)
+            assert_one_note(found)
+            assert found.text == '' and 'damaged' in found.notes[0]
+            tried += 1
+    assert tried > 10
 
 
 @pytest.mark.parametrize('missing', ['version', 'metadata', 'logic-1-1'])

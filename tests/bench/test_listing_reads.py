@@ -1,7 +1,9 @@
 """How the program `listing` reads: an input that it cannot read to its end is not listed, and one that comes in pieces is. Nearly every input that
-breaks off does so behind a whole capture, so a program that takes the failure for the end lists it. `rt check listing` builds the program."""
+breaks off does so behind a whole capture, so a program that takes the failure for the end lists it. And how it ends where its listing cannot be
+written. `rt check listing` builds the program."""
 import os
 import pathlib
+import signal
 import socket
 import subprocess
 import tty
@@ -15,6 +17,7 @@ CAPTURE = (ROOT / 'samples/good-hsm.capture').read_bytes()
 HALF = CAPTURE[: 1 + 4 * 46]
 LISTING = b'mode HSM edges 93\n1 good 000000850001\npages 1 bad 0\n'
 UNREAD = b'listing: the input could not be read to its end, so nothing is listed\n'
+UNWRITTEN = b'listing: the output could not be written\n'
 # A start takes a fraction of a second, also in the emulator.
 SECONDS = 60
 
@@ -78,3 +81,37 @@ def test_a_capture_that_comes_in_pieces_is_listed_whole():
             other.sendall(CAPTURE[start : start + 126])
         other.close()
         assert listed(ours) == (LISTING, b'')
+
+
+# A listing, and a refusal: an input without a mode byte.
+WRITING = pytest.mark.parametrize('given', [CAPTURE, b''], ids=['listing', 'refusal'])
+
+
+@WRITING
+@pytest.mark.parametrize('output, way', [('/dev/full', 'wb'), ('/dev/null', 'rb')], ids=['no room', 'only to be read'])
+def test_an_output_that_cannot_be_written_is_said(given, output, way):
+    with open(output, way) as unwritable:
+        ended = subprocess.run([PROGRAM], input=given, stdout=unwritable, stderr=subprocess.PIPE, timeout=SECONDS)
+    assert (ended.returncode, ended.stderr) == (0, UNWRITTEN)
+
+
+@WRITING
+def test_an_output_that_is_closed_is_said(given):
+    words = ['bash', '-c', 'exec "$1" >&-', 'bash', PROGRAM]
+    ended = subprocess.run(words, input=given, stdout=subprocess.PIPE, stderr=subprocess.PIPE, timeout=SECONDS)
+    assert (ended.returncode, ended.stdout, ended.stderr) == (0, b'', UNWRITTEN)
+
+
+@WRITING
+def test_a_pipe_whose_reader_has_gone_ends_the_program_by_its_signal_without_a_word(opened, given):
+    """As where `head` has seen enough: a person who is gone need not be told."""
+    reader, writer = os.pipe()
+    opened.append(writer)
+    os.close(reader)
+    ended = subprocess.run([PROGRAM], input=given, stdout=writer, stderr=subprocess.PIPE, timeout=SECONDS)
+    assert (ended.returncode, ended.stderr) == (-signal.SIGPIPE, b'')
+
+
+def test_where_neither_output_can_be_written_the_program_ends_well():
+    with open('/dev/full', 'wb') as full:
+        assert subprocess.run([PROGRAM], input=CAPTURE, stdout=full, stderr=full, timeout=SECONDS).returncode == 0

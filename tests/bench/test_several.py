@@ -59,6 +59,22 @@ def test_the_last_line_on_standard_error_tells_how_many_captures_and_pages_there
     assert f'{sum(name in ("d.vcd", "e.capture", "f.csv", "i.vcd", "l.not-there") for name in names)} not listed' in last
 
 
+@pytest.mark.parametrize('count', [2, 12], ids=lambda count: f'{count} captures')
+@pytest.mark.parametrize('plainly', [['--plain'], []], ids=['plain', 'told'])
+def test_the_last_lines_tell_the_bad_attempts_of_each_capture_and_of_all(tmp_path, count, plainly):
+    """Each capture has three pages; some have no bad attempt besides, and the others many, each another number, so that none stands for another."""
+    bad = [number % 3 * (number + 5) for number in range(1, count + 1)]
+    for number, bad_ones in enumerate(bad):
+        edges = pages_apart(LSM, [0x850001] * 3, 5 * LSM.quiet)
+        for _ in range(bad_ones):
+            edges += [edges[-1] + LSM.quiet + time for time in plain_reader.page(LSM, 0x850001)[:40]]
+        (tmp_path / f'{number}.capture').write_bytes(own_bytes(LSM, edges))
+    found = ran('list', *plainly, *(f'{number}.capture' for number in range(count)), cwd=tmp_path)
+    assert re.findall(r'^pages .*$', found.out, re.MULTILINE) == [f'pages 3 bad {number}' for number in bad]
+    last = found.err.rstrip('\n').split('\n')[-1]
+    assert re.match(rf'(tools/list: )?{count} of {count} captures, {3 * count} pages, {sum(bad)} bad, 0 not listed\b', last), last
+
+
 def test_a_single_capture_has_no_progress_line(captures):
     folder, _ = captures
     assert ran('list', 'c.capture', cwd=folder).err == ''

@@ -5,7 +5,7 @@ import pytest
 
 import plain_reader
 from bench_tools import ROOT, ran, result, told
-from expected_words import assert_told, fields_in_words
+from expected_words import assert_told, base_page_in_words, rates_of
 from made_captures import own_bytes, pages_apart, random_capture, saleae, seeded, vcd
 from plain_reader import HSM, LSM, MODES
 
@@ -92,6 +92,17 @@ def test_a_cut_at_the_end_of_a_capture_says_so(mode):
     assert '12.345 µs, up to the end of the capture' in line.words
 
 
+@BOTH
+@pytest.mark.parametrize('more', [0, 1, 999, 12_345, 10 ** 7, 5 * 10 ** 9])
+def test_a_page_that_the_end_of_a_capture_cuts_is_told_with_what_came_behind_its_last_edge(mode, more):
+    """Ahead of it another one is cut, which is told up to the next edge."""
+    page = plain_reader.page(mode, 0xA5C300F1E2A1)
+    for count in 1, 2, 40, len(page) - 2, len(page) - 1:
+        edges = page[:40] + [page[39] + 2 * mode.quiet + time for time in page[:count]]
+        assert [attempt.ending for attempt in plain_reader.read(mode, edges)] == ['cut', 'cut']
+        assert_told(result(vcd(edges, edges[-1] + more), mode=mode.name).text, mode, edges, end=edges[-1] + more)
+
+
 def base_words():
     chance = seeded(11)
     fixed = [1, 1 << 10 | 1, 1 << 11 | 1, 3 << 10 | 1, 1 << 12 | 1, 1 << 12 | 1 << 20 | 1, 1 << 13 | 1, 1 << 14 | 1, 1 << 15 | 1, 31 << 5 | 1, 31 << 16 | 1]
@@ -106,16 +117,20 @@ def test_the_fields_of_a_base_page_are_told_in_words(mode):
     edges = pages_apart(mode, words, 10_000_000)
     lines = told(result(own_bytes(mode, edges)).text)
     assert [int(line.text.split()[2], 16) for line in lines] == words
-    for word, line in zip(words, lines):
-        for field in fields_in_words(word):
-            assert re.search(rf'(^|[ ,;:]){re.escape(field)}($|[,;])', line.words), (f'{word:012x}', field, line.words)
-        assert ('no pause' in line.words) == (not word >> 10 & 3)
+    assert [line.words for line in lines] == [base_page_in_words(word) for word in words]
 
 
 def test_pause_is_told_by_its_bits():
+    """D10 is C0, PAUSE, and D11 is C1, ASM_DIR."""
     lines = told(result(own_bytes(LSM, pages_apart(LSM, [bits << 10 | 1 for bits in range(4)], 10_000_000))).text)
-    told_pause = [re.search(r'[^,]*pause[^,]*', line.words)[0].strip() for line in lines]
-    assert told_pause[0] == 'no pause' and len(set(told_pause)) == 4
+    told_pause = [re.search(r'role not forced, (.*), no fault', line.words)[1] for line in lines]
+    assert told_pause == ['no pause', 'pause symmetric (D10)', 'pause asymmetric (D11)', 'pause symmetric and asymmetric (D10, D11)']
+
+
+def test_an_ability_that_names_no_rate_is_told_by_its_number():
+    lines = told(result(own_bytes(LSM, pages_apart(LSM, [1 << 21 + bit | 1 for bit in range(27)], 10_000_000))).text)
+    assert [re.search(r'no fault, (.*)', lines[bit].words)[1] for bit in (7, 8, 10, 21, 23, 26)] == [
+        f'no rate; other abilities A{bit}' for bit in (7, 8, 10, 21, 23, 26)]
 
 
 def test_a_rate_that_is_not_offered_is_not_named():
@@ -123,7 +138,7 @@ def test_a_rate_that_is_not_offered_is_not_named():
         line, = told(result(own_bytes(HSM, plain_reader.page(HSM, word))).text) if word.bit_count() < 4 else [None]
         if line:
             named = re.findall(r'[\d.]+G?BASE-T1[SL]?(?: full duplex| half duplex)?', line.words)
-            assert sorted(named) == sorted(field for field in fields_in_words(word) if 'BASE' in field)
+            assert sorted(named) == sorted(rates_of(word))
 
 
 def test_next_pages_are_told_as_such_once_they_stand():
