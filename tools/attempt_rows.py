@@ -228,7 +228,9 @@ def draw_dropped(canvas, row, since, level):
     words = f'{plural(len(times), "edge")} dropped' + (f', the last {len(times) - len(inside)} not drawn' if len(inside) < len(times) else '')
     # Behind a data transition its one stands a little further on.
     left = start + (0.24 if row.last % 2 == 0 and row.last > FIRST_CLOCK else 0.12)
-    canvas.text(min(left, RIGHT - width_of(words, FIELD_SIZE)), row.y(BITS), words, FIELD_SIZE, FAINT)
+    # Where there is no room it stands in the attempt's head alone.
+    if left + width_of(words, FIELD_SIZE) <= RIGHT:
+        canvas.text(left, row.y(BITS), words, FIELD_SIZE, FAINT)
 
 
 def draw_end_of_page(canvas, row):

@@ -126,13 +126,24 @@ def decoded(content):
         return content.decode('latin-1')
 
 
+def head_of(content):
+    """The first letters of a file. One of several bytes may stand across the end of the part that is looked at."""
+    part = content[:4096]
+    if part[:2] in (codecs.BOM_UTF16_LE, codecs.BOM_UTF16_BE):
+        return part.decode('utf-16', 'ignore')
+    try:
+        return codecs.getincrementaldecoder('utf-8-sig')().decode(part, len(content) <= len(part))
+    except UnicodeDecodeError:
+        return part.decode('latin-1')
+
+
 def form_of(content):
     """What a file is, by its content; nothing where it is none that is known."""
     if content[:2] == b'PK':
         return SESSION
     if content[:1] in (b'', b'\0', b'\1'):
         return BYTES
-    head = decoded(content[:4096]).lstrip()
+    head = head_of(content).lstrip()
     if any(letter < ' ' and letter not in '\t\n\r' for letter in head):
         return None
     return VCD if META.sub('', head, 1)[:1] == '$' else CSV

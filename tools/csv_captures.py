@@ -7,7 +7,7 @@ from datetime import datetime
 from fractions import Fraction
 from typing import NamedTuple
 
-from captures import CSV, KNOWN, META, Capture, Level, NoCapture, nanoseconds
+from captures import CSV, KNOWN, META, Capture, Level, NoCapture, amount, nanoseconds
 from vcd_captures import PREFIXES
 
 UNITS = {'seconds': Fraction(10 ** 9), 'milliseconds': Fraction(10 ** 6), 'microseconds': Fraction(1000), 'nanoseconds': Fraction(1),
@@ -20,11 +20,13 @@ GIVEN_RATE = re.compile(r'(\d{1,15}(?:\.\d{1,15})?) ?([kMG]?)(?:[Hh]z|S/s)?')
 TIME = re.compile(r'time ?(?:[\[(](\w+)[\])])?', re.IGNORECASE)
 COUNT = re.compile(r'samples?(?: number)?|index', re.IGNORECASE)
 NUMBER = re.compile(r'[-+]?(?:\d{1,30}(?:\.\d{0,60})?|\.\d{1,60})(?:[eE][-+]?\d{1,3})?')
-DATE = re.compile(r'(\d{4}-\d\d-\d\d[T ]\d\d:\d\d:\d\d)(\.\d{1,18})?(Z|[-+]\d\d:\d\d)?')
+DATE = re.compile(r'(\d{4}-\d\d-\d\d[T ]\d\d:\d\d:\d\d)(?:[.,](\d{1,18}))?(Z|[-+]\d\d:\d\d)?')
 # Where two fit alike the first of these is taken: a comma may stand in names, or be a decimal one.
 SEPARATORS = ('\t', ';', ',')
 # How many rows show what the columns of a file are.
 LOOKED_AT = 2000
+# Other letters that look like blanks are damage.
+BLANKS = ' \t'
 VALUES = {'0': 0, '1': 1, 'x': None, 'X': None, 'z': None, 'Z': None}
 
 
@@ -55,7 +57,7 @@ def cells(line, separator):
         except csv.Error:
             # The marks go astray, and so does the number of columns, which is what is said then.
             pass
-    return [cell.strip() for cell in found]
+    return [cell.strip(BLANKS) for cell in found]
 
 
 def separator_of(lines):
@@ -70,16 +72,16 @@ def is_comment(line):
 
 
 def lines_of(text, name):
-    """The comments ahead of a file's rows, and its other lines with their numbers. A comment amid the rows may be a damaged row."""
-    lines = [(number, line.rstrip('\r')) for number, line in enumerate(text.split('\n')[:-1], 1) if line.strip()]
-    comments = [line for _, line in itertools.takewhile(lambda numbered: is_comment(numbered[1]), lines)]
-    rows = lines[len(comments):]
+    """The comments ahead of a file's rows, and its other lines with their numbers. An empty line or a comment amid the rows may be a damaged row."""
+    lines = [(number, line.rstrip('\r')) for number, line in enumerate(text.rstrip().split('\n'), 1)]
+    ahead = list(itertools.takewhile(lambda numbered: not numbered[1].strip() or is_comment(numbered[1]), lines))
+    rows = lines[len(ahead):]
     for number, line in rows:
-        if line[0] in ';#':
-            raise NoCapture(f'{name}, line {number} is a comment amid the rows, where a row may be lost; if none is, take the comment out')
+        if not line.strip() or line[0] in ';#':
+            raise NoCapture(f'{name}, line {number} is {"a comment" if line.strip() else "empty"} amid the rows, where a row may be lost; if none is, take it out')
     if not rows:
         raise NoCapture(f'{name} has no rows: it is cut, or no capture')
-    return comments, rows
+    return [line for _, line in ahead], rows
 
 
 def table_of(text, name):
@@ -90,13 +92,8 @@ def table_of(text, name):
         raise NoCapture(f'{name} is text, but neither a VCD nor a CSV with values 0 and 1; {KNOWN}')
     first = cells(rows[0][1], separator)
     # Channels may have numbers for names; sigrok tells them in a comment.
-    is_named = first == channels(comments) or not all(NUMBER.fullmatch(cell) or DATE.fullmatch(cell) for cell in decimal_points(first, separator))
+    is_named = first == channels(comments) or not all(cell in VALUES or is_reading(cell) for cell in first)
     return Table(comments, first if is_named else [], rows[is_named:], separator)
-
-
-def decimal_points(found, separator):
-    """Cells in which a decimal comma, as many countries write it, is a point."""
-    return found if separator == ',' else [cell.replace(',', '.') for cell in found]
 
 
 def channels(comments):
@@ -115,14 +112,23 @@ def told_rate(comments):
     return (Fraction(said[1]) * PREFIXES[said[2]] if said else Fraction(converted[1]) if converted else None) or None
 
 
+def pointed(cell):
+    """A cell with a point for the decimal comma that many countries write; where columns are parted by commas it can have none but in quotes."""
+    return cell.replace(',', '.')
+
+
+def is_reading(cell):
+    return bool(NUMBER.fullmatch(pointed(cell)) or DATE.fullmatch(cell))
+
+
 def reading(cell, where):
     """The number in a cell: as it stands, or of a date the seconds."""
-    if NUMBER.fullmatch(cell) and math.isfinite(float(cell)):
-        return Fraction(cell)
-    date = DATE.fullmatch(cell)
+    number, date = pointed(cell), DATE.fullmatch(cell)
+    if NUMBER.fullmatch(number) and math.isfinite(float(number)):
+        return Fraction(number)
     try:
         moment = datetime.fromisoformat(date[1] + (date[3] or 'Z').replace('Z', '+00:00'))
-        return int(moment.replace(microsecond=0).timestamp()) + Fraction(f'0{date[2] or ""}')
+        return int(moment.timestamp()) + Fraction(f'0.{date[2] or 0}')
     except (TypeError, ValueError, OverflowError):
         raise NoCapture(f'{where}: {ascii(cell[:30])} is no time; the file is damaged or no capture') from None
 
@@ -134,29 +140,47 @@ class Clock(NamedTuple):
     origin: Fraction = Fraction(0)
 
     def time(self, cell, index, where):
-        count = reading(cell.strip().strip('"').replace(',', '.'), where) - self.origin if self.has_cell else index
+        count = reading(cell.strip(BLANKS), where) - self.origin if self.has_cell else index
         return nanoseconds(count.numerator, self.scale.numerator, count.denominator * self.scale.denominator)
+
+
+def is_wire(found):
+    """Whether cells are those of a wire. Times rise, so that at most two of them are 0 and 1."""
+    return sum(cell in VALUES for cell in found) > 2 or all(cell in VALUES for cell in found)
 
 
 def has_times(table):
     """Whether the first column is one of times: by its name, or where columns have none, by what stands in it."""
-    if table.names:
-        return table.names[0].lower() in UNITS or bool(TIME.fullmatch(table.names[0]))
-    return any(cell not in VALUES for cell in table.first_cells())
+    found = table.first_cells()
+    if not table.names:
+        return not is_wire(found)
+    is_called_so = table.names[0].lower() in UNITS or bool(TIME.fullmatch(table.names[0]))
+    # A channel may be called so, too.
+    return is_called_so and table.names != channels(table.comments) and not (len(found) > 2 and is_wire(found))
 
 
 def clock_of(table, period, name):
     """How the rows tell their times: by the names of the columns, the comments, and the period between samples where it is known."""
-    first = table.names[0] if table.names else ''
+    first, found = table.names[0] if table.names else '', table.first_cells()
     if has_times(table):
         return time_clock(table, period, name)
-    if not period:
-        raise NoCapture(f'{name} has samples and does not say their rate; give it, as --rate 24M')
-    is_count = bool(COUNT.fullmatch(first))
-    if is_count and len(table.rows) > 1 and set(table.first_cells()) == {'0'}:
+    is_count = bool(COUNT.fullmatch(first)) and (not is_wire(found) or bool(told(META, table.comments)))
+    if is_count and len(found) > 1 and set(found) == {'0'}:
         raise NoCapture(f'{name} has 0 for the number of every sample, as sigrok-cli writes it where it converts in one step; '
                         'have it make a session first, as sigrok-cli -I vcd -i FILE -o FILE.sr')
+    if not is_count and not is_wire(found) and not is_voltage(found):
+        raise NoCapture(f'{name} has a first column {ascii(first)} that is no wire; if it has times, name it with their unit, as Time [s]')
+    if not period:
+        raise NoCapture(f'{name} has samples and does not say their rate; give it, as --rate 24M')
     return Clock(is_count, period)
+
+
+def is_voltage(found):
+    """Whether cells are numbers that rise and fall, as those of no clock."""
+    if not all(NUMBER.fullmatch(pointed(cell)) for cell in found):
+        return False
+    numbers = [float(pointed(cell)) for cell in found]
+    return numbers != sorted(numbers)
 
 
 def time_clock(table, period, name):
@@ -179,10 +203,10 @@ def unit_of(table, period, name):
         if word.lower() not in UNITS:
             raise NoCapture(f'{name} has times in {ascii(word)}, which is no unit that is known; name the first column with one, as Time [s]')
         return UNITS[word.lower()]
-    if any(mark in cell for cell in table.first_cells() for mark in '.,') or first and not told_rate(table.comments):
+    if any(mark in cell for cell in table.first_cells() for mark in '.,eE'):
         return UNITS['seconds']
-    if not period:
-        raise NoCapture(f'{name} does not say the unit of its times; name the first column, as Time [s]')
+    if not told_rate(table.comments) and (first or not period):
+        raise NoCapture(f'{name} does not say the unit of its times; name the first column with it, as Time [s]')
     # sigrok takes the largest one in which a sample takes a whole one.
     return next((UNITS[unit] for unit in ('seconds', 'milliseconds', 'microseconds', 'nanoseconds') if period >= UNITS[unit]), UNITS['picoseconds'])
 
@@ -196,18 +220,21 @@ def wire_names(table, count, has_cell):
 
 
 class Column:
-    """A data column: its level, and how many cells had values and how many had not. The first of these is told, with its line."""
+    """A data column: its level, and in how many rows it had values and in how many it had not. The first of these is told, with its line."""
 
     def __init__(self):
-        self.level, self.values, self.others, self.first_other = Level(), 0, 0, ''
+        self.level, self.values, self.others, self.first_other, self.is_value = Level(), 0, 0, '', True
 
     def take(self, cell, time, number):
-        if cell in VALUES:
-            self.values += 1
+        self.is_value = cell in VALUES
+        if self.is_value:
             self.level.take(VALUES[cell], time)
         else:
             self.first_other = self.first_other or f'{ascii(cell[:20])} in line {number}'
-            self.others += 1
+
+    def stood(self, rows):
+        """The last cell has stood in so many rows."""
+        self.values, self.others = self.values + rows * self.is_value, self.others + rows * (not self.is_value)
 
     def wire(self, name, of):
         """The wire of a column; nothing where most cells have other values, as those of a voltage."""
@@ -217,27 +244,45 @@ class Column:
         return self.level.wire(name, fault=fault)
 
 
+def parted(line, separator, has_cell):
+    """The first cell of a line, where it tells the time, and the rest; nothing for a rest that is not there."""
+    if not has_cell:
+        return '', line
+    if '"' in line:
+        first, *others = cells(line, separator)
+        return first, separator.join(others) if others else None
+    first, mark, rest = line.partition(separator)
+    return first, rest if mark else None
+
+
 def read_rows(table, clock, name):
     """Goes through the rows. Gives the data columns and the time of the last row, or nothing where there is none."""
     separator, width = table.separator, len(table.names or cells(table.rows[0][1], table.separator))
     columns = [Column() for _ in range(width - clock.has_cell)]
-    time, before = None, None
+    time, before, since, index = None, None, 0, -1
     for index, (number, line) in enumerate(table.rows):
-        if '"' in line:
-            line = separator.join(cells(line, separator))
-        first, mark, rest = line.partition(separator) if clock.has_cell else ('', separator, line)
+        first, rest = parted(line, separator, clock.has_cell)
         now = clock.time(first, index, f'{name}, line {number}')
         if time is not None and now < time:
             raise NoCapture(f'{name}, line {number}: the time goes back; the file is damaged')
         time = now
-        if rest != before:
-            row = cells(rest, separator) if mark else []
-            if len(row) != len(columns):
-                raise NoCapture(f'{name}, line {number} has {len(row) + clock.has_cell} columns where the first line has {width}; the file is damaged or cut')
-            for column, cell in zip(columns, row):
-                column.take(cell, time, number)
-            before = rest
+        # Of many rows that are alike the first one counts.
+        if rest != before or not index:
+            take_row(columns, rest, separator, f'{name}, line {number}', (time, number, index - since))
+            before, since = rest, index
+    for column in columns:
+        column.stood(index + 1 - since)
     return columns, time
+
+
+def take_row(columns, rest, separator, where, place):
+    """Takes the cells of a row that differs from those before it; place is its time, its line, and how many rows the ones before it stood."""
+    row, (time, number, rows) = cells(rest, separator) if rest is not None else [], place
+    if len(row) != len(columns):
+        raise NoCapture(f'{where} has {amount(len(row), "value")} where the first line has columns for {len(columns)}; the file is damaged or cut')
+    for column, cell in zip(columns, row):
+        column.stood(rows)
+        column.take(cell, time, number)
 
 
 def capture(text, name, rate):

@@ -13,6 +13,8 @@ from line_modes import MODES
 COMMON = {'HSM': '125 MS/s is common', 'LSM': '5, 6 and 8 MS/s are common'}
 # So many gaps at least must stand on a grid before it is one, and only those are looked at that are so many times as long as the shortest.
 FEWEST, SHORT = 16, 12
+# A gap between two times that are rounded to the ns is off by up to 1 ns, and a little more from a period that is fitted.
+ROUNDED = Fraction(5, 4)
 # A head's clock is never quite right, so that a gap which is a whole number of samples may come out one shorter or longer.
 DRIFT = Fraction(1, 10_000)
 
@@ -47,9 +49,12 @@ def coarse_words(mode, period):
 def fitted(gaps, count):
     """The period of which the shortest gap is a number of samples, if each gap is then a whole number of them but for rounding; else nothing."""
     period = Fraction(gaps[0], count)
-    numbers = [round(gap / period) for gap in gaps]
-    period = Fraction(sum(map(operator.mul, numbers, gaps)), sum(number * number for number in numbers))
-    return period if all(abs(gap - number * period) <= 1 for gap, number in zip(gaps, numbers)) else None
+    # The shortest gaps give a rough period, by which longer ones can be counted, which give a better one.
+    for longest in 2, 4, SHORT:
+        near = [gap for gap in gaps if gap <= longest * gaps[0]]
+        numbers = [round(gap / period) for gap in near]
+        period = Fraction(sum(map(operator.mul, numbers, near)), sum(number * number for number in numbers))
+    return period if all(abs(gap - number * period) <= ROUNDED for gap, number in zip(near, numbers)) else None
 
 
 def guessed(mode, times):

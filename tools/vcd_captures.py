@@ -9,7 +9,7 @@ UNITS = {'s': Fraction(10 ** 9), 'ms': Fraction(10 ** 6), 'us': Fraction(1000), 
 # sigrok tells the rate of the samples in a comment.
 RATE = re.compile(r'Acquisition with \d+/\d+ channels at (\d{1,15}(?:\.\d{1,15})?) ([kMG]?)Hz')
 # A simulator that has reached the limit which it was given says so in a comment, and writes no more.
-LIMIT = re.compile(r'limit\b.*\bexceeded', re.IGNORECASE)
+LIMIT = re.compile(r'dump (?:file )?limit .{0,40}exceeded', re.IGNORECASE)
 # Behind a name may stand its bit, or the numbers of its first and last bit.
 NAME = re.compile(r'(.*?)\s*(?:(\[-?\d+\])|\[(-?\d{1,9}):(-?\d{1,9})\])?')
 # More lines than this are no capture's, and would fill the memory.
@@ -18,7 +18,8 @@ PREFIXES = {'': 1, 'k': 1000, 'M': 10 ** 6, 'G': 10 ** 9}
 # The values that are known; simulators write weak ones too. All others, x and z among them, are not.
 KNOWN_VALUES = {'0': 0, '1': 1, 'l': 0, 'L': 0, 'h': 1, 'H': 1}
 VALUES = re.compile('[01xXzZlLhHuUwW-]+')
-# What stands between these and $end is a value, not a text.
+# What stands between these and $end are values, and a text behind those of TEXTS.
+TEXTS = ('$comment', '$date', '$version')
 DUMPS = ('$dumpvars', '$dumpall', '$dumpon', '$dumpoff')
 
 
@@ -132,25 +133,29 @@ def extended(digits, width):
     return digits.rjust(width, first)[-width:]
 
 
+def read_text(waiting, name):
+    """Passes over a text up to its end."""
+    text = list(itertools.takewhile(lambda word: word != '$end', waiting))
+    if LIMIT.search(' '.join(text[:20])):
+        raise NoCapture(f'{name} says itself that its limit was exceeded: it is cut, and nothing of it is listed')
+
+
 def read_body(words, lines, others, unit, name):
     """Goes through the changes of values. Gives the last time, or nothing where there is none."""
-    time, last, waiting, is_text, text = None, None, iter(words), False, []
+    if sum(word in TEXTS or word in DUMPS for word in words) > words.count('$end'):
+        raise NoCapture(f'{name} ends inside a comment or a dump: it is cut, and nothing of it is listed')
+    time, last, waiting = None, None, iter(words)
     for word in waiting:
-        if is_text:
-            is_text = word != '$end'
-            text.append(word)
+        if word in TEXTS:
+            read_text(waiting, name)
         elif word[0] == '#':
             last, time = time_of(word, last, name), None
-        elif word[0] == '$':
-            is_text = word not in (*DUMPS, '$end')
-        else:
+        elif word[0] == '$' and word not in DUMPS and word != '$end':
+            raise NoCapture(f'{name}: {ascii(word[:20])} is no word of VCD; the file is damaged')
+        elif word[0] != '$':
             if time is None:
                 time = nanoseconds(last or 0, unit.numerator, unit.denominator)
             change(word, waiting, lines, others, time, name)
-    if is_text:
-        raise NoCapture(f'{name} ends inside a comment: it is cut, and nothing of it is listed')
-    if LIMIT.search(' '.join(text)):
-        raise NoCapture(f'{name} says itself that a limit was exceeded: it is cut, and nothing of it is listed')
     return None if last is None else nanoseconds(last, unit.numerator, unit.denominator)
 
 

@@ -61,6 +61,15 @@ def test_a_decimal_comma_is_a_point_where_columns_are_parted_by_something_else(s
     assert plain(text) == LISTED
 
 
+def test_a_decimal_comma_between_quotation_marks_is_a_point():
+    assert plain('Time [s],line\n' + rows(PAGE, lambda time: f'"{in_seconds(time)}"'.replace('.', ','))) == LISTED
+
+
+def test_dates_may_have_a_decimal_comma():
+    text = 'Time;line\n' + rows(PAGE, lambda time: f'2026-11-17 12:00:00,{time:09d}', ';')
+    assert told(result(text).text)[0].began == 500
+
+
 @pytest.mark.parametrize('zone', ['', 'Z', '+00:00', '+02:00', '-11:30'])
 def test_dates_count_from_the_first_row_on(zone):
     """As Saleae's Logic writes them where one asks for them; the page goes over a midnight."""
@@ -70,6 +79,40 @@ def test_dates_count_from_the_first_row_on(zone):
     found = result('Time,line\n' + rows(PAGE, date))
     line, = told(found.text)
     assert (line.text, line.began) == (f'1 good {WORD:012x}', 500)
+
+
+@pytest.mark.parametrize('head', ['Timestamp', 'Timestamp [s]', 'Zeit [s]', 't/s', 'Time [10 ns]', 'Time (ns, rel)', '', 'h:m:s'])
+@pytest.mark.parametrize('comment', ['', '# Sample rate: 500 MHz\n'])
+def test_a_first_column_that_may_have_times_under_another_name_is_said(head, comment):
+    """Its rows must not be counted as samples: with a rate that would give a listing, and a wrong one."""
+    for cell in in_seconds, lambda time: f'00:00:{in_seconds(time)}':
+        found = result(f'{comment}"{head}",line\n' + rows(PAGE, cell))
+        assert_one_note(found)
+        assert 'Time [s]' in found.notes[0]
+
+
+@pytest.mark.parametrize('name', ['s', 'FS', 'ns', 'Time', 'Sample', 'index', 'D0'])
+@pytest.mark.parametrize('comment', ['', '; Channels (2/2): {name}, line\n'])
+@pytest.mark.parametrize('idle', ['0', '1', None], ids=['low', 'high', 'moving'])
+def test_a_channel_may_be_called_as_times_are(name, comment, idle):
+    samples = [0, 0, 1, 1, 0, 1, 0, 0]
+    text = comment.format(name=name) + f'{name},line\n' + ''.join(f'{idle or number % 2},{value}\n' for number, value in enumerate(samples))
+    edges = [200, 400, 500, 600]
+    assert plain(text, rate='10M', wire='line', mode='LSM') == plain_reader.text(LSM, edges)
+
+
+@pytest.mark.parametrize('cell', ['0.5', '2', 'x'])
+def test_a_column_without_a_name_that_mostly_has_values_is_no_column_of_times(cell):
+    """A damaged cell does not make a clock of it."""
+    text = ''.join(f'0,{value}\n' for value in (0, 1, 0, 1, 0, 1)) + f'{cell},0\n'
+    found = result(text, rate='10M', wire='column 2', mode='LSM')
+    assert found.text.startswith('mode LSM edges 6\n') and told(found.text)[0].began == 100
+
+
+def test_times_in_whole_numbers_without_a_unit_are_not_listed():
+    found = result('Time,line\n' + rows(PAGE))
+    assert_one_note(found)
+    assert 'unit' in found.notes[0]
 
 
 @pytest.mark.parametrize('cell', ['7', '', '0.3', 'low', '10', '-'])
@@ -82,6 +125,25 @@ def test_a_cell_that_is_no_value_is_said_with_its_line_and_no_other_column_is_li
     found = result('\n'.join([*lines, '']))
     assert_one_note(found)
     assert f'line {number + 1}' in found.notes[0] and "'line'" in found.notes[0]
+
+
+def test_a_few_damaged_cells_of_a_wire_that_stands_still_are_damage_and_no_voltage():
+    """Rows that are alike count each by itself."""
+    cells = ['0'] * 50 + ['7', '8', '9', '5'] + ['0'] * 50
+    text = '; Samplerate: 10 MHz\nline,other\n' + ''.join(f'{cell},{int(number > 60)}\n' for number, cell in enumerate(cells))
+    found = result(text)
+    assert_one_note(found)
+    assert '--wire' in found.notes[0]
+    assert "'line'" in result(text, wire='line').notes[0] and 'line 53' in result(text, wire='line').notes[0]
+    assert plain(text, wire='other', mode='LSM') == plain_reader.text(LSM, [6100])
+
+
+@pytest.mark.parametrize('letter', ['"', '\xa0', '\x85', '\u2003', "'", 'O'])
+def test_a_time_with_a_letter_that_is_none_of_a_number_is_said(letter):
+    lines = ('Time [s],line\n' + rows(PAGE, in_seconds)).split('\n')
+    time, _, value = lines[9].partition(',')
+    lines[9] = f'{time[:-1]}{letter},{value}'
+    assert_one_note(result('\n'.join(lines)))
 
 
 def test_of_a_damaged_wire_and_one_that_moves_neither_is_listed_without_a_name():
@@ -102,13 +164,18 @@ def test_a_column_of_voltages_is_no_wire():
 def test_rows_of_another_width_than_the_head_are_said(text):
     found = result(text)
     assert_one_note(found)
-    assert 'columns' in found.notes[0]
+    assert 'columns' in found.notes[0] or 'first column' in found.notes[0]
 
 
-@pytest.mark.parametrize('mark', [';', '#'])
-def test_a_comment_amid_the_rows_is_said_since_a_row_may_be_lost(mark):
-    lines = ('Time [s],line\n' + rows(PAGE, in_seconds)).split('\n')
-    lines[7] = mark + lines[7]
+def test_empty_lines_at_both_ends_are_no_rows():
+    assert plain('\n\n; a comment\n\nTime [s],line\n' + rows(PAGE, in_seconds) + '\n\n') == LISTED
+
+
+@pytest.mark.parametrize('change', [lambda line: f';{line}', lambda line: f'#{line}', lambda line: '', lambda line: ' ', lambda line: '\r'])
+@pytest.mark.parametrize('text', ['Time [s],line\n' + rows(PAGE, in_seconds), '; Samplerate: 10 MHz\nline\n' + '0\n1\n' * 20], ids=['times', 'samples'])
+def test_a_comment_or_an_empty_line_amid_the_rows_is_said_since_a_row_may_be_lost(change, text):
+    lines = text.split('\n')
+    lines[7] = change(lines[7])
     found = result('\n'.join(lines))
     assert_one_note(found)
     assert 'line 8' in found.notes[0]
@@ -170,6 +237,20 @@ def test_a_rate_that_is_given_counts_for_files_with_times_too_and_is_not_used_wh
 def test_texts_in_other_encodings_are_listed(encoding, text):
     mark = '\ufeff' if encoding in ('utf-16-le', 'utf-16-be') else ''
     assert plain((mark + text).encode(encoding)) == LISTED
+
+
+@pytest.mark.parametrize('content', [b'\xff\xfeT', b'\xfe\xff\0', b'\xff\xfe\xff\xdf\xff\xdf\x10\n', b'\xff\xfe' + b'\xd8\0' * 2047 + b'\0\xd8' * 9])
+def test_bytes_that_look_like_utf_16_and_are_none_are_said_and_harm_no_other_capture(content):
+    found = ran('list', file_of(content, 'odd'), file_of(saleae(PAGE), 'good'))
+    assert found.status == 1 and 'Traceback' not in found.err and f'1 good {WORD:012x}' in found.out
+
+
+@pytest.mark.parametrize('before', range(4088, 4098))
+def test_a_letter_across_the_end_of_what_is_looked_at_first_changes_nothing(before):
+    """A file is known by its first 4096 bytes, and a letter may have two."""
+    head = '\ufeff$comment '.encode()
+    text = head + b'a' * (before - len(head)) + 'ä $end\n'.encode() + vcd(PAGE).encode()
+    assert plain(text) == LISTED
 
 
 @pytest.mark.parametrize('text', ['Time [s],A\n0.{digits},0\n1,1\n', 'Time [s],A\n{digits},0\n', '; Samplerate: {digits} MHz\nA\n0\n1\n',

@@ -102,6 +102,16 @@ def test_however_coarse_the_samples_are_the_mode_that_they_are_too_coarse_for_is
     assert any(f'too coarse for {mode.name}:' in warning and re.search(NEEDED[mode], warning) for warning in warnings(found)), found.notes
 
 
+@pytest.mark.parametrize('rate', [16, 24, 48, 62.5, 80, 96])
+@pytest.mark.parametrize('phase', [0.1, 0.37, 0.6, 0.81])
+def test_times_that_are_rounded_one_by_one_show_their_grid_all_the_same(rate, phase):
+    """A gap between two of them is off by up to a ns, and two pages have to do."""
+    samples = samples_of(HSM, rate, phase, 50e-6, WORDS[:2])
+    edges = [round(float(number * 1000 / rate)) for number in range(1, len(samples)) if samples[number] != samples[number - 1]]
+    found = result(saleae(edges))
+    assert not found.bad or any('too coarse for HSM:' in warning for warning in warnings(found)), found.notes
+
+
 @pytest.mark.parametrize('rate, least, most', [(125, 0.4, 0.9), (250, 1, 1)])
 def test_with_jitter_of_1_ns_some_pages_are_lost_at_125_ms_and_none_at_250(rate, least, most):
     """What README says of it: the transitions are off by 1 ns in the mean square."""

@@ -250,6 +250,25 @@ def test_a_dump_that_says_that_its_limit_was_exceeded_is_cut():
     assert 'cut' in found.notes[0]
 
 
+@pytest.mark.parametrize('words', ['No limit was exceeded', 'rate limit $end\n$comment exceeded', 'the file limit of the dump was not exceeded'])
+def test_a_comment_that_says_nothing_of_a_limit_that_was_reached_is_passed_over(words):
+    assert plain(vcd(PAGE) + f'$comment {words} $end\n') == LISTED
+
+
+@pytest.mark.parametrize('word', ['$dumpvar', '$Dumpvars', '$dumpvarz', '$commen', '$', '$timescale', '$var'])
+def test_a_word_that_is_none_of_the_body_is_said_and_swallows_no_values(word):
+    whole, damaged = (vcd(PAGE).replace('#0\n0!\n', f'#0\n{here}\n0!\n$end\n') for here in ('$dumpvars', word))
+    assert plain(whole) == LISTED
+    assert_one_note(result(damaged))
+
+
+@pytest.mark.parametrize('end', ['$comment the end', '$dumpvars\n0!', '$dumpoff\nx!'])
+def test_a_comment_or_a_dump_without_its_end_is_cut(end):
+    found = result(vcd(PAGE) + f'{end}\n')
+    assert_one_note(found)
+    assert 'cut' in found.notes[0]
+
+
 def test_a_comment_that_names_another_clock_is_no_rate_of_samples():
     found = result('$comment PLL runs at 25 MHz $end\n' + vcd(PAGE))
     assert not any('coarse' in note for note in found.notes)
