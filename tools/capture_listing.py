@@ -12,6 +12,10 @@ from csv_captures import rate_of
 from line_modes import BY_NAME, HSM, LSM, MODES, MOST_READINGS, other
 
 
+# So many edges or more show whether the clock stands still.
+MANY = 16
+
+
 class Listed(NamedTuple):
     """A capture, the wire of it that was listed, its listing, and the time from which all others count."""
     capture: Capture
@@ -74,6 +78,12 @@ def sampling_notes(capture, listing, modes):
 
 def wire_notes(capture, wire):
     """What a person should know of the wire that is listed."""
+    if capture.remark:
+        yield capture.remark
+    # Our own bytes are not looked at: theirs is a clock, and there may be a thousand captures.
+    still = 0 if capture.form == BYTES else sum(before == after for before, after in zip(wire.edges, wire.edges[1:]))
+    if still * 2 > max(len(wire.edges), MANY):
+        yield f'{still} edges have the time of the one before them: the times are rounded, it seems; export them with all digits'
     if wire.unknown:
         yield (f'the wire was neither 0 nor 1 (x or z, or without a value) {amount(wire.unknown, "time")}; '
                'an edge counts where the next known value is another than the last')

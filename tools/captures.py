@@ -70,6 +70,8 @@ class Capture(NamedTuple):
     end: int | None = None
     # Our own bytes as they are, which the proved program judges.
     content: bytes | None = None
+    # What a person should know of how the file was taken.
+    remark: str | None = None
 
 
 def problem(fault):
@@ -127,14 +129,17 @@ def decoded(content):
 
 
 def head_of(content):
-    """The first letters of a file. One of several bytes may stand across the end of the part that is looked at."""
+    """The first letters of a file, or a letter that no text has. One of several bytes may stand across the end of the part that is looked at."""
     part = content[:4096]
-    if part[:2] in (codecs.BOM_UTF16_LE, codecs.BOM_UTF16_BE):
-        return part.decode('utf-16', 'ignore')
+    is_wide = part[:2] in (codecs.BOM_UTF16_LE, codecs.BOM_UTF16_BE)
     try:
-        return codecs.getincrementaldecoder('utf-8-sig')().decode(part, len(content) <= len(part))
+        if not is_wide:
+            return codecs.getincrementaldecoder('utf-8-sig')().decode(part, len(content) <= len(part))
     except UnicodeDecodeError:
-        return part.decode('latin-1')
+        pass
+    text = part.decode('utf-16', 'ignore') if is_wide else part.decode('latin-1')
+    # Of a capture's text most letters are English ones; of raw samples hardly any byte is.
+    return text if sum(letter < '\x80' for letter in text) * 4 > len(text) * 3 else '\0'
 
 
 def form_of(content):
@@ -189,6 +194,9 @@ def text_of(content, name):
         text = decoded(content)
     except UnicodeDecodeError as fault:
         raise NoCapture(f'{name}: byte {fault.start} is no text; the file is damaged or cut') from None
+    if '\n' not in text:
+        # Old line ends.
+        text = text.replace('\r', '\n')
     if not text.endswith('\n'):
         raise NoCapture(f'{name} ends inside its last line, so it may be cut, and nothing of it is listed; if it is whole, end that line')
     return text
@@ -209,7 +217,8 @@ def chosen(capture, wanted, name):
         # One that cannot be listed may be the very wire that is meant.
         found = [wire for wire in wires if wire.edges or wire.fault] or wires[:1]
         if len(found) > 1:
-            raise NoCapture(f'{name} has {len(found)} wires with edges; say which, as --wire {shown(found[0].name)}; {named(wires)}')
+            which = 'wires that are damaged or have edges' if any(wire.fault for wire in found) else 'wires with edges'
+            raise NoCapture(f'{name} has {len(found)} {which}; say which, as --wire {shown(found[0].name)}; {named(wires)}')
     if found[0].fault:
         raise NoCapture(found[0].fault)
     return found[0]
@@ -226,7 +235,7 @@ def shown(name):
 
 def named(wires):
     """The wires of a capture with their numbers of edges, the first ones where there are many."""
-    names = [f'{shown(wire.name)} ({amount(len(wire.edges), "edge")})' for wire in wires[:8]]
+    names = [f'{shown(wire.name)} ({"damaged" if wire.fault else amount(len(wire.edges), "edge")})' for wire in wires[:8]]
     return 'it has ' + (', '.join(names) + (', ..' if len(wires) > 8 else '') if names else 'none')
 
 

@@ -18,6 +18,11 @@ SAMPLE_RATE = re.compile(r'[Ss]ample ?rate: (\d{1,15}(?:\.\d{1,15})?) ([kMG]?)Hz
 CHANNELS = re.compile(r'Channels \(\d+/\d+\): (.*)')
 GIVEN_RATE = re.compile(r'(\d{1,15}(?:\.\d{1,15})?) ?([kMG]?)(?:[Hh]z|S/s)?')
 TIME = re.compile(r'time ?(?:[\[(](\w+)[\])])?', re.IGNORECASE)
+# A name that ends with a unit of time, as delta [s].
+TIMED = re.compile(r'.*[\[(](\w+)[\])]')
+SIGROK = re.compile('sigrok')
+# Numbers with a mark for thousands, as 3,741.
+THOUSANDS = re.compile(r'[1-9]\d{0,2}[.,]\d{3}')
 COUNT = re.compile(r'samples?(?: number)?|index', re.IGNORECASE)
 NUMBER = re.compile(r'[-+]?(?:\d{1,30}(?:\.\d{0,60})?|\.\d{1,60})(?:[eE][-+]?\d{1,3})?')
 DATE = re.compile(r'(\d{4}-\d\d-\d\d[T ]\d\d:\d\d:\d\d)(?:[.,](\d{1,18}))?(Z|[-+]\d\d:\d\d)?')
@@ -37,9 +42,9 @@ class Table(NamedTuple):
     rows: list
     separator: str
 
-    def first_cells(self):
-        """The first cells of the rows that show what the columns are."""
-        return [cells(line, self.separator)[0] for _, line in self.rows[:LOOKED_AT]]
+    def first_cells(self, place=0):
+        """The first cells, or those at another place, of the rows that show what the columns are."""
+        return [found[place] for _, line in self.rows[:LOOKED_AT] if len(found := cells(line, self.separator)) > place]
 
 
 def rate_of(text):
@@ -68,7 +73,14 @@ def separator_of(lines):
 
 
 def is_comment(line):
-    return line[:1] in (';', '#') or bool(META.match(line))
+    # Some spreadsheets tell the separator ahead of all.
+    return line[:1] in (';', '#') or bool(META.match(line)) or line.lower().startswith('sep=')
+
+
+def is_timed(name):
+    """Whether a column is called as one of times."""
+    unit = TIMED.fullmatch(name)
+    return bool(TIME.fullmatch(name)) or bool(unit) and unit[1].lower() in UNITS
 
 
 def lines_of(text, name):
@@ -88,9 +100,11 @@ def table_of(text, name):
     """The lines of a file, told apart. Its first line that is no comment names the columns, unless all in it are numbers."""
     comments, rows = lines_of(text, name)
     separator = separator_of([line for _, line in rows[:2]])
-    if not any(cell in VALUES for _, line in rows[:LOOKED_AT] for cell in cells(line, separator)):
+    if not any(cell in VALUES for _, line in rows[:LOOKED_AT] for cell in cells(line, separator)) and not is_timed(cells(rows[0][1], separator)[0]):
         raise NoCapture(f'{name} is text, but neither a VCD nor a CSV with values 0 and 1; {KNOWN}')
     first = cells(rows[0][1], separator)
+    if len(rows) > 1 and len(cells(rows[1][1], separator)) != len(first):
+        raise NoCapture(f'{name}, line {rows[1][0]} has {len(cells(rows[1][1], separator))} columns where the first line has {len(first)}; the file is damaged')
     # Channels may have numbers for names; sigrok tells them in a comment.
     is_named = first == channels(comments) or not all(cell in VALUES or is_reading(cell) for cell in first)
     return Table(comments, first if is_named else [], rows[is_named:], separator)
@@ -154,17 +168,35 @@ def has_times(table):
     found = table.first_cells()
     if not table.names:
         return not is_wire(found)
-    is_called_so = table.names[0].lower() in UNITS or bool(TIME.fullmatch(table.names[0]))
-    # A channel may be called so, too.
-    return is_called_so and table.names != channels(table.comments) and not (len(found) > 2 and is_wire(found))
+    named = TIME.fullmatch(table.names[0])
+    if named and named[1]:
+        return True
+    # A channel may be called so, too, where the name has no unit.
+    return (bool(named) or table.names[0].lower() in UNITS) and table.names != channels(table.comments) and not (len(found) > 2 and is_wire(found))
+
+
+def refuse_times_elsewhere(table, name):
+    """Says it where times stand in a column that is not taken for times: its rows must not be counted as samples."""
+    for place, title in enumerate(table.names):
+        if is_timed(title) and not is_wire(table.first_cells(place)):
+            raise NoCapture(f'{name} has times in column {place + 1}, {ascii(title)}; only a first column that is called as Time [s] is taken for times')
+
+
+def refuse_names_in_comment(table, name):
+    """Says it where the names of columns stand behind a mark of comments: the first one may be another than it looks."""
+    if not table.names and any(is_timed(cell.strip('#; \t"')) for comment in table.comments[-1:] for cell in comment.split(table.separator)):
+        raise NoCapture(f'{name} names its columns in a comment; take the mark ahead of the names away, and have the times in the first column')
 
 
 def clock_of(table, period, name):
     """How the rows tell their times: by the names of the columns, the comments, and the period between samples where it is known."""
     first, found = table.names[0] if table.names else '', table.first_cells()
+    refuse_names_in_comment(table, name)
     if has_times(table):
         return time_clock(table, period, name)
-    is_count = bool(COUNT.fullmatch(first)) and (not is_wire(found) or bool(told(META, table.comments)))
+    refuse_times_elsewhere(table, name)
+    is_sigrok = bool(told(SIGROK, table.comments)) and table.names != channels(table.comments)
+    is_count = bool(COUNT.fullmatch(first)) and (not is_wire(found) or is_sigrok)
     if is_count and len(found) > 1 and set(found) == {'0'}:
         raise NoCapture(f'{name} has 0 for the number of every sample, as sigrok-cli writes it where it converts in one step; '
                         'have it make a session first, as sigrok-cli -I vcd -i FILE -o FILE.sr')
@@ -190,12 +222,20 @@ def time_clock(table, period, name):
         return Clock(True, UNITS['seconds'], reading(dates[0], name))
     unit = unit_of(table, period, name)
     # sigrok rounds the time of each sample down to a multiple of whole units; what counts is the number of the sample.
-    is_rounded = told_rate(table.comments) and told(re.compile('sigrok'), table.comments) and period >= unit
+    is_rounded = told_rate(table.comments) and told(SIGROK, table.comments) and period >= unit
     return Clock(True, period / (period // unit) if is_rounded else unit)
+
+
+def refuse_thousands(table, name):
+    """Says it where times seem to have marks for thousands, which would be read as decimal ones: three digits behind each mark, and none in small numbers."""
+    marked = [cell for cell in table.first_cells() if '.' in cell or ',' in cell]
+    if len(marked) > 3 and len(marked) < len(table.first_cells()) and all(THOUSANDS.fullmatch(cell) for cell in marked):
+        raise NoCapture(f'{name} has times as {ascii(marked[0])}, with marks for thousands, it seems, or rounded to three digits; export them without, and with all digits')
 
 
 def unit_of(table, period, name):
     """The unit of a column of times in ns: the one that its name says, or else the likeliest."""
+    refuse_thousands(table, name)
     first = table.names[0] if table.names else ''
     bracket = TIME.fullmatch(first)
     word = bracket[1] if bracket else first
@@ -298,4 +338,10 @@ def capture(text, name, rate):
     wires = [wire for column, title in zip(columns, names) if (wire := column.wire(title, name))]
     if not wires:
         raise NoCapture(f'{name} has no column with values 0 and 1 alone: it is no capture, or one of voltages')
-    return Capture(CSV, wires, period=period, end=end)
+    return Capture(CSV, wires, period=period, end=end, remark=remark_on(table, clock))
+
+
+def remark_on(table, clock):
+    """What is said of times whose unit nothing tells."""
+    has_unit = table.names and not re.fullmatch('time', table.names[0], re.IGNORECASE)
+    return None if not clock.has_cell or clock.origin or has_unit or clock.scale != UNITS['seconds'] else 'nothing says the unit of its times; they are taken as seconds'

@@ -31,7 +31,7 @@ def opened(content, name):
         damaged = 'its directory'
     if damaged is not None:
         raise NoCapture(f'{name} is a damaged sigrok session, or cut ({damaged} is not whole), and nothing of it is listed')
-    raise NoCapture(f'{name} is a ZIP archive and no sigrok session; what Saleae keeps in a .sal is to be exported as CSV')
+    raise NoCapture(f'{name} is a ZIP archive and no sigrok session; what Saleae keeps in a .sal, or a spreadsheet in an .xlsx, is to be exported as CSV')
 
 
 class Described(NamedTuple):
