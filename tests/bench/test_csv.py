@@ -189,14 +189,15 @@ def test_a_cell_that_is_no_value_is_said_with_its_line_and_no_other_column_is_li
     assert f'line {number + 1}' in found.notes[0] and "'line'" in found.notes[0]
 
 
-def test_a_few_damaged_cells_of_a_wire_that_stands_still_are_damage_and_no_voltage():
-    """Rows that are alike count each by itself."""
-    cells = ['0'] * 50 + ['7', '8', '9', '5'] + ['0'] * 50
+@pytest.mark.parametrize('behind', [50, 0])
+def test_a_few_damaged_cells_of_a_wire_that_stands_still_are_damage_and_no_voltage(behind):
+    """Rows that are alike count each by itself, at the end as well."""
+    cells = ['0'] * (100 - behind) + ['7', '8', '9', '5'] + ['0'] * behind
     text = '; Samplerate: 10 MHz\nline,other\n' + ''.join(f'{cell},{int(number > 60)}\n' for number, cell in enumerate(cells))
     found = result(text)
     assert_one_note(found)
     assert '--wire' in found.notes[0]
-    assert "'line'" in result(text, wire='line').notes[0] and 'line 53' in result(text, wire='line').notes[0]
+    assert "'line'" in result(text, wire='line').notes[0] and f'line {103 - behind}' in result(text, wire='line').notes[0]
     assert plain(text, wire='other', mode='LSM') == plain_reader.text(LSM, [6100])
 
 
@@ -240,7 +241,7 @@ def test_a_comment_or_an_empty_line_amid_the_rows_is_said_since_a_row_may_be_los
     lines[7] = change(lines[7])
     found = result('\n'.join(lines))
     assert_one_note(found)
-    assert 'line 8' in found.notes[0]
+    assert 'line 8 is' in found.notes[0] and 'amid the rows' in found.notes[0]
 
 
 def test_x_and_z_in_a_csv_are_no_values_and_are_counted():

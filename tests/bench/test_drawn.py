@@ -160,3 +160,39 @@ def test_attempts_of_several_rows_are_all_drawn_in_their_lanes(tmp_path):
         lanes = list(bands_by_lane(overview, ending))
         assert len(lanes) == 3
         assert endings.count(ending) <= sum(len(bands) for _, bands in lanes) <= endings.count(ending) + 2, ending
+
+
+def edges_that_miss(mode, word, place):
+    """A page in which the transition behind a place comes too late to fit, and all behind it as much later."""
+    places = plain_reader.places_of(mode, word)
+    return [time + (mode.tolerance + 3) * (at > place) for time, at in zip(plain_reader.page(mode, word), places)]
+
+
+@BOTH
+@pytest.mark.parametrize('place, ones', [(28, 1), (30, 2)])
+def test_a_one_that_was_read_last_stands_under_its_transition(tmp_path, mode, place, ones):
+    """No clock is there behind it that would end its place."""
+    page, _ = drawn(tmp_path, own_bytes(mode, edges_that_miss(mode, 0xFFFFFFFFFFFF, place)))
+    assert texts(page).count('1') == ones and any(text.startswith('gap of ') for text in texts(page))
+
+
+@pytest.mark.parametrize('bit', [0, 3, 15])
+def test_a_single_wrong_check_bit_is_named(tmp_path, bit):
+    check = plain_reader.check_of(WORD)
+    page, _ = drawn(tmp_path, own_bytes(HSM, plain_reader.page(HSM, WORD, check=check ^ 1 << bit)))
+    words = f'one transition {"lost" if check >> bit & 1 else "added"} at S{bit} would explain it'
+    assert any(text.startswith('check bits ') and text.endswith(words) for text in texts(page))
+
+
+@pytest.mark.parametrize('place, is_drawn', [(60, True), (120, False)])
+def test_words_on_dropped_edges_stand_where_there_is_room_for_them_and_not_over_the_bits(tmp_path, place, is_drawn):
+    """Near the right margin there is none; the attempt's own words have the number."""
+    page, _ = drawn(tmp_path, own_bytes(HSM, edges_that_miss(HSM, 0xFFFFFFFFFFFF, place)))
+    assert any(re.match(r'\d+ edges dropped', text) for text in texts(page)) == is_drawn
+    assert re.search(r'\d+ edges dropped after it', ' '.join(texts(page)))
+
+
+def test_an_overview_with_bars_says_how_many_attempts_the_highest_has(tmp_path):
+    """2000 attempts at equal times in 12 rows of 96 columns: one or two in each."""
+    _, overview = drawn(tmp_path, own_bytes(HSM, list(range(0, 2000 * HSM.quiet, HSM.quiet))))
+    assert 'the number of attempts that begin there, 2 at the most' in ' '.join(texts(overview))

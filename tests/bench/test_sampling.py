@@ -1,5 +1,6 @@
 """How fast one must sample: pages sampled at common rates, at several phases and by a clock that is a little off, read where that is fine enough; where it
 is not, a warning names the rate, what is needed, and why."""
+import itertools
 import re
 from fractions import Fraction
 
@@ -144,10 +145,19 @@ def test_pages_as_they_are_written_and_our_bytes_are_never_warned_of(mode):
 
 
 def test_a_grid_of_times_alone_is_no_warning_where_every_page_is_read():
-    """At 100 MS/s a page whose transitions stand on samples is read, and nothing says that it was sampled at all."""
-    edges = [round(time / 10) * 10 for time in pages_apart(HSM, WORDS, 5 * HSM.quiet)]
+    """A grid of 12 ns is too coarse for HSM. Here each gap fits all the same, and nothing says that the page was sampled at all."""
+    page, edges, shorter = plain_reader.page(HSM, WORDS[2]), [1200], itertools.cycle((24, 36))
+    for before, after in zip(page, page[1:]):
+        edges.append(edges[-1] + {30: next(shorter), 60: 60, 90: 96, 120: 120}[after - before])
+    assert warnings(result(saleae(edges[:-3]), mode='HSM')) != []
     found = result(saleae(edges), mode='HSM')
     assert found.bad == 0 and warnings(found) == []
+
+
+def test_a_few_gaps_that_are_alike_are_no_grid():
+    for edges in [1000, 1045], [1000, 1045, 1090, 1135], list(range(1000, 1000 + 16 * 45, 45)):
+        assert warnings(result(saleae(edges), mode='HSM')) == []
+    assert warnings(result(saleae(list(range(1000, 1000 + 17 * 45, 45))), mode='HSM')) != []
 
 
 def test_a_capture_at_24_ms_is_warned_of_by_the_command_on_standard_error():
