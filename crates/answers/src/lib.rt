@@ -1,4 +1,5 @@
 // The table of refusals of document 01, of its amendments and of requests of 02, and the one way in which an answer becomes a number.
+#![tactic(auto)]
 ghost use Rattle.std.specs.Prelude.{◌≡◌, ◌+◌};
 ghost use Rattle.answers.specs.Choices.{if◌then◌else◌};
 ghost use Rattle.answers.specs.Numbers.{number_of, refusal_of};
@@ -73,6 +74,7 @@ impl Refusal {
     }
 
     // The refusal that a number names; the first, if it names none.
+    #[tactic(auto, unfolding(crate::specs::Numbers::refusal_of))]
     pub fn numbered(number: u8) -> Self
         ensures { result ≡ refusal_of number }
     {

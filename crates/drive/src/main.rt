@@ -2,6 +2,7 @@
 // Every number is a cell of 64 bits, low byte first. A call is an operation, the number n of its arguments, and n arguments; its
 // answer is the number of answer cells, and these. Input past 65 536 cells is not read. A message run has the longest answers: three cells for
 // each page of the call, if all are message pages. So there is room for three times as many answer cells as cells of calls.
+#![tactic(auto)]
 ghost use Rattle.std.specs.Prelude.{◌≡◌, length};
 
 mod calls;

@@ -1,4 +1,5 @@
 // Clock and gaps: the time between two readings, the two modes, and how a gap is judged.
+#![tactic(auto)]
 mod clock;
 mod modes;
 

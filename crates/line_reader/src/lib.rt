@@ -1,4 +1,5 @@
 // The edge reader.
+#![tactic(auto)]
 mod endings;
 mod pattern;
 mod reader;

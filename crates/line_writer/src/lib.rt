@@ -1,4 +1,5 @@
 // The line: a page's transitions, writing a page.
+#![tactic(auto)]
 mod transitions;
 mod writer;
 

@@ -1,4 +1,5 @@
 // The bench listing: a capture on standard input, its listing on standard output.
+#![tactic(auto)]
 ghost use Rattle.std.specs.Prelude.{◌≡◌, length, take};
 ghost use Rattle.io.specs.Counts.{IsPrefixLen};
 ghost use Rattle.bench_listing.specs.Listing.{listing};

@@ -1,4 +1,5 @@
 // The C functions of the static library, thin over the crates: each gives the answer as one number. include/maststep.h declares them.
+#![tactic(auto)]
 ghost use Rattle.std.specs.Prelude.{◌≡◌};
 ghost use Rattle.answers.specs.Answers.{packed};
 ghost use Rattle.page_check_bits.specs.CheckBits.{checked};

@@ -1,4 +1,5 @@
 // Rate and role: what two words settle on.
+#![tactic(auto)]
 mod rates;
 mod resolving;
 mod roles;

@@ -1,4 +1,5 @@
 // The registers 7.512 to 7.525: reading and writing them.
+#![tactic(auto)]
 ghost use Rattle.std.specs.Prelude.{◌≡◌, ◌≤◌, ◌/◌, ◌%◌, ◌^◌};
 ghost use Rattle.answers.specs.Choices.{if◌then◌else◌, ◌=?◌};
 ghost use Rattle.answers.specs.Answers.{register_value};

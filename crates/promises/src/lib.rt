@@ -14,3 +14,4 @@
 // specs/Refusals       an input for each refusal number, and what it leaves
 // specs/NextPageLinks  links on which Next Pages are exchanged, worked out
 // specs/NextPageFacts  what holds of Next Pages at every device
+#![tactic(auto)]

@@ -1,6 +1,7 @@
 // Records that no call has made, each given an event: a line tells the record, the event, what is answered and what is left. What each must
 // bring is proved of the definitions in NotMade, among the promises; here the compiled step takes the same records, and rt holds the lines to
 // the file stdout.
+#![tactic(auto)]
 mod lines;
 
 use line_reader::Reader;

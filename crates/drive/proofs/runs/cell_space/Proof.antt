@@ -1,9 +1,0 @@
--- By the law on repeated entries: counted one by one, they would cost seconds.
-use mathlib.Core.Path.{sym}
-use Prim.Native.Nat.{ℕ}
-use lib.ListN.{length-replicate}
-use Rattle.drive.proofs.runs.cell_space.Statement.{statement}
-use Rattle.drive.proofs.runs.cell_space.Tie as tie
-
-pub cell-space-spec : {M : Type 1} → statement M
-cell-space-spec = tie.close (tie.spec (λ c. sym (length-replicate {A = ℕ} 65536 0)))
