@@ -1,5 +1,6 @@
 // The 48-bit page: its fields, its thirds as registers have them, and what of a Next Page a device looks at.
 #![tactic(auto)]
+
 mod fields;
 mod next_pages;
 mod thirds;

@@ -32,6 +32,7 @@ fn inverse_toggle(before: u64) -> u64
 }
 
 // A word as the Next Page that follows another page.
+#[tactic(auto, unfolding(crate::specs::NextPages::next_after))]
 pub fn next_after(before: u64, word: u64) -> u64
     ensures { result ≡ next_after before word }
 {

@@ -13,6 +13,7 @@ pub enum Third {
 }
 
 // The value of one of a word's registers.
+#[tactic(auto, unfolding(crate::specs::Fields::part))]
 pub fn third_of(word: u64, third: Third) -> u16
     ensures { result ≡ third_of third word }
 {
