@@ -1,5 +1,6 @@
 // Rate and role: what two words settle on.
 #![tactic(auto)]
+
 mod rates;
 mod resolving;
 mod roles;

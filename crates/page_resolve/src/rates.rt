@@ -15,6 +15,7 @@ pub(crate) enum Rate {
 const PAST: u8 = 27;
 
 // Whether a word has an ability, of any number.
+#[tactic(auto, using(crate::proofs::CommonAbilities::none_past), unfolding(crate::specs::Rates::has_ability))]
 fn has_ability(word: u64, ability: u8) -> bool
     ensures { result ≡ has_ability word ability }
 {

@@ -74,6 +74,7 @@ fn either_has_other_selector(own: u64, partner: u64) -> bool
 }
 
 // What two words come to, with the abilities of an ordered list.
+#[tactic(auto, unfolding(crate::specs::Resolving::resolution_of))]
 fn resolve_by(order: &[u8], own: u64, partner: u64) -> Resolution
     ensures { result ≡ resolution_of order.now own partner }
 {

@@ -49,6 +49,7 @@ fn both_forced(own: bool, partner: bool) -> Role
 }
 
 // The own side's role. T4 counts only where M/S is 1: elsewhere it is a bit of chance.
+#[tactic(auto, unfolding(crate::specs::Roles::role_of))]
 pub(crate) fn own_role(own: u64, partner: u64) -> Role
     ensures { result ≡ role_of own partner }
 {
