@@ -34,6 +34,7 @@ fn register_after(bits: u64, count: u32) -> u32
 }
 
 // The check bits over D0-D47, S15 highest. Bits above D47 are not looked at.
+#[tactic(auto, unfolding(crate::specs::CheckBits::check_bits, crate::specs::CheckBits::check_list))]
 pub fn check_bits(word: u64) -> u32
     ensures { result ≡ check_bits word }
 {
