@@ -1,5 +1,6 @@
 // Clock and gaps: the time between two readings, the two modes, and how a gap is judged.
 #![tactic(auto)]
+
 mod clock;
 mod modes;
 

@@ -100,6 +100,7 @@ impl LineMode {
 }
 
 // The mode of a number: 0 is HSM, 1 is LSM.
+#[tactic(auto, unfolding(crate::specs::Modes::mode_of))]
 pub fn mode_of(number: u32) -> Found
     ensures { result ≡ mode_of number }
 {
@@ -124,6 +125,7 @@ fn answer_of(judgement: Judgement) -> Answer
 }
 
 // How a gap counts in the mode of a number.
+#[tactic(auto, unfolding(crate::specs::Gaps::judged))]
 pub fn judge(mode: u32, gap: u32) -> Answer
     ensures { said result ≡ judged mode gap }
 {

@@ -8,9 +8,9 @@ use native.Mathlib.Omega.{arith}
 use lib.Dec.{leb, eqb}
 use borrow.Author.Tests.{leb-true, leb-false, eqb-false, le-leb, lt-leb, eq-eqb, ne_eqb}
 use Rattle.answers.specs.Choices.{if◌then◌else◌}
-use Rattle.page_word.specs.Word.{odd, among}
+use Rattle.page_word.specs.Word.{among}
 use Rattle.line_mode.specs.declared.modes.LineMode.{LineMode}
-use Rattle.line_page.specs.Pattern.{delimiter_of, mask_of, is_clock, is_bit, Stands, always, by_bit, never, stands_at}
+use Rattle.line_page.specs.Pattern.{delimiter_of, mask_of, is_clock, is_bit, always, by_bit, never, stands_at}
 
 -- The mask of a mode's delimiter and of the first clock.
 abbrev pub start_of : LineMode → ℕ

@@ -1,5 +1,6 @@
 // The pattern of a page: the delimiter of each mode.
 #![tactic(auto)]
+
 ghost use Rattle.std.specs.Prelude.{◌≡◌, ◌++◌, ◌∷◌, []};
 ghost use Rattle.line_page.specs.Pattern.{delimiter_of, mask_of};
 
