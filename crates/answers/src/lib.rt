@@ -7,7 +7,7 @@ ghost use Rattle.answers.specs.Numbers.{number_of, refusal_of};
 ghost use Rattle.answers.specs.Answers.{said, packed, saying};
 
 // The refusals, in the order of their numbers: 01's table, then what requests have added.
-#[derive(Drop)]
+#[derive(Clone, Copy)]
 pub enum Refusal {
     Gap,
     Cut,

@@ -11,7 +11,7 @@ use line_reader::{Ending, Heard, Reader, drop_on, go_on};
 
 // What reading a capture from a place on brings: no mode has that number; the place is past the end, or at it; or how the first attempt
 // ends, and where the next one opens.
-#[derive(Drop)]
+#[derive(Clone, Copy)]
 pub enum ReadOutcome {
     UnknownMode,
     PastTheEnd,

@@ -9,7 +9,7 @@ ghost use Rattle.line_mode.specs.Gaps.{judgement_of, said_of_gap, judged};
 use answers::{Answer, Refusal};
 
 // A mode's numbers in ns, and whether it has the low-speed delimiter.
-#[derive(Drop)]
+#[derive(Clone, Copy)]
 pub struct LineMode {
     pub spacing: u32,
     pub tolerance: u32,

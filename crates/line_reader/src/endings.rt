@@ -6,7 +6,7 @@ ghost use Rattle.line_reader.specs.Endings.{said_of_ending, said_of_heard};
 use answers::{Answer, Refusal};
 
 // How an attempt ends: with a good page's word, or by a wrong gap, by quiet, or with check bits that do not agree.
-#[derive(Drop)]
+#[derive(Clone, Copy)]
 pub enum Ending {
     Good(u64),
     Gap,
@@ -15,7 +15,7 @@ pub enum Ending {
 }
 
 // What an edge says: nothing, or how the attempt ended.
-#[derive(Drop)]
+#[derive(Clone, Copy)]
 pub enum Heard {
     Nothing,
     Ended(Ending),

@@ -12,7 +12,7 @@ use line_mode::{Judgement, LineMode, time_between};
 
 // What a reader holds between two edges: nothing yet; an open attempt with the position and reading of its last edge and the bits so
 // far, the newest highest; or, after an attempt has ended, the last edge's reading.
-#[derive(Drop)]
+#[derive(Clone, Copy)]
 pub enum Reader {
     Fresh,
     Open { at: u32, last: u32, bits: u64 },

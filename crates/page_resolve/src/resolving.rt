@@ -12,7 +12,7 @@ use answers::{Answer, Refusal};
 use page_word::{WIDE, has_other_selector, is_tie};
 
 // What two words come to: a refusal, or the number n of the ability An and whether the own side is master.
-#[derive(Drop)]
+#[derive(Clone, Copy)]
 pub enum Resolution {
     Refused(Refusal),
     Settled { ability: u8, master: bool },

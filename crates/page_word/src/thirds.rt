@@ -5,7 +5,7 @@ ghost use Rattle.page_word.specs.Thirds.{third_of, with_third};
 use crate::fields::with_part;
 
 // One of the three.
-#[derive(Drop)]
+#[derive(Clone, Copy)]
 pub enum Third {
     Low,
     Middle,

@@ -23,7 +23,7 @@ pub use plain_record::{
 pub use rounds::{Round, held_in_round, is_base, is_first, own_in_round};
 
 // The states of the negotiation.
-#[derive(Drop)]
+#[derive(Clone, Copy)]
 pub enum State {
     Off,
     Break,
@@ -35,14 +35,14 @@ pub enum State {
 }
 
 // The two bits of 7.513 that outlive a link: Page received and Remote fault.
-#[derive(Drop)]
+#[derive(Clone, Copy)]
 pub struct Flags {
     pub received: bool,
     pub fault: bool,
 }
 
 // What outlives a link: 7.514-516, and these two bits.
-#[derive(Drop)]
+#[derive(Clone, Copy)]
 pub struct Lasting {
     pub advertised: u64,
     pub flags: Flags,
@@ -50,7 +50,7 @@ pub struct Lasting {
 
 // What is said and heard on one link: the own base page, the held base page, whether a page is out, how many were sent in Complete; the mark, whether
 // it is "heard" or "waiting", and its reading; the reading at which the state's timer started; the link latch of 7.513.
-#[derive(Drop)]
+#[derive(Clone, Copy)]
 pub struct Talk {
     pub own: u64,
     pub held: u64,
@@ -63,7 +63,7 @@ pub struct Talk {
 }
 
 // What resolving came to, if it was asked.
-#[derive(Drop)]
+#[derive(Clone, Copy)]
 pub enum Outcome {
     NoneYet,
     Resolved(Resolution),
@@ -71,7 +71,7 @@ pub enum Outcome {
 
 // What Next Pages add to a link: 7.520-522, the own Next Page as the host writes it, and whether one is loaded; 7.523-525, the heard one; the own and
 // the held Next Page, the round, and the reading of the last good page.
-#[derive(Drop)]
+#[derive(Clone, Copy)]
 pub struct NextPages {
     pub good: u32,
     pub loaded: bool,
@@ -83,7 +83,7 @@ pub struct NextPages {
 }
 
 // What belongs to one link: 7.517-519, Next Pages, what is said and heard, the outcome, the reader.
-#[derive(Drop)]
+#[derive(Clone, Copy)]
 pub struct Link {
     pub partner: u64,
     pub next: NextPages,
@@ -94,7 +94,7 @@ pub struct Link {
 
 // A device: what outlives a link, the state, and what belongs to the link. The order of fields, here, in Talk and in NextPages, is the one of those tried with which
 // events cost least (bench/README.md).
-#[derive(Drop)]
+#[derive(Clone, Copy)]
 pub struct Device {
     pub link: Link,
     pub lasting: Lasting,

@@ -12,7 +12,7 @@ use page_resolve::Resolution;
 // The banks of registers, the base and Next Pages, the readings of timers and marks; the reader's kind with its bits, its last reading and its position; bytes for
 // the state, the round, the outcome with ability and role, and for yes or no. include/maststep.h declares the same for C.
 #[repr(C)]
-#[derive(Drop)]
+#[derive(Clone, Copy)]
 pub struct PlainRecord {
     pub advertised: u64,
     pub partner: u64,

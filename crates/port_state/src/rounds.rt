@@ -5,7 +5,7 @@ ghost use Rattle.port_state.specs.Rounds.{is_base, is_first, own_in_round, held_
 use crate::Link;
 
 // Base pages; Next Pages, none of the partner's held yet; Next Pages, one held.
-#[derive(Drop)]
+#[derive(Clone, Copy)]
 pub enum Round {
     Base,
     First,

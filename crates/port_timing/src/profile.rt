@@ -7,7 +7,7 @@ use page_resolve::Resolution;
 use port_state::Outcome;
 
 // The line mode's numbers, and those of the break timer, silent, wait and lost, in ns.
-#[derive(Drop)]
+#[derive(Clone, Copy)]
 pub struct Profile {
     pub mode: LineMode,
     pub breaking: u32,
