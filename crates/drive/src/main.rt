@@ -3,7 +3,8 @@
 // answer is the number of answer cells, and these. Input past 65 536 cells is not read. A message run has the longest answers: three cells for
 // each page of the call, if all are message pages. So there is room for three times as many answer cells as cells of calls.
 #![tactic(auto)]
-ghost use Rattle.std.specs.Prelude.{◌≡◌, length};
+
+ghost use Rattle.std.specs.Prelude.{◌≡◌, ◌≤◌, length};
 
 mod calls;
 mod cells;
@@ -11,7 +12,7 @@ mod frames;
 mod message_runs;
 mod runs;
 
-use libc::{STDIN_FILENO, STDOUT_FILENO};
+use std::io::Read;
 
 // Room for the input.
 fn input_space() -> [u8; 524288]
@@ -34,22 +35,38 @@ fn entry_space() -> [u32; 65536]
     [0; 65536]
 }
 
-// Reads the calls, answers them, writes the answers.
-fn serve(input: &mut [u8], output: &mut [u8], list: &mut [u32])
+// Reads until the room is full, the input ends or a read fails; how many bytes now stand at the head of the room. What came before a failure
+// is answered like what comes before an end.
+fn take_input(source: &mut impl Read, room: &mut [u8]) -> usize
+    ensures { result ≤ length room.new }
+{
+    let mut count = 0;
+    while count < room.len() {
+        match source.read(&mut room[count..]) {
+            Ok(0) => return count,
+            Ok(more) => count += more,
+            Err(_) => return count,
+        }
+    }
+    count
+}
+
+// Reads the calls, answers them, writes the answers. If they cannot be written, nothing is left to do.
+fn serve(rt: &(impl Input + Print), input: &mut [u8], output: &mut [u8], list: &mut [u32])
     requires { (524288 ≡ length input.old) × (1572864 ≡ length output.old) × (65536 ≡ length list.old) }
 {
-    let got = io::read_full(STDIN_FILENO, input);
+    let got = take_input(&mut rt.reader(), input);
     let mut cells = [0u64; 65536];
     cells::from_bytes(input, &mut cells);
     let mut answers = [0u64; 196608];
     let told = calls::answer_all(&cells, got / 8, &mut answers, list);
     cells::to_bytes(&answers, told, output);
-    io::write_all(STDOUT_FILENO, &output[..told * 8]);
+    let _ = rt.write_all(&output[..told * 8]);
 }
 
-fn main() {
+fn main(rt: HostRuntime) {
     let mut input = input_space();
     let mut output = output_space();
     let mut list = entry_space();
-    serve(&mut input, &mut output, &mut list);
+    serve(&rt, &mut input, &mut output, &mut list);
 }

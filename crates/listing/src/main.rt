@@ -1,11 +1,12 @@
 // The bench listing: a capture on standard input, its listing on standard output.
 #![tactic(auto)]
+
 ghost use Rattle.std.specs.Prelude.{◌≡◌, length, take};
 ghost use Rattle.io.specs.Counts.{IsPrefixLen};
 ghost use Rattle.bench_listing.specs.Listing.{listing};
 
 use answers::KIND;
-use libc::{STDERR_FILENO, STDIN_FILENO, STDOUT_FILENO};
+use std::io::Read;
 
 // Room for the longest input and one byte more, so that a longer one is seen to be too long.
 fn input_space() -> [u8; 32002]
@@ -46,30 +47,30 @@ struct Taken {
     failed: bool,
 }
 
-// Reads until the input ends, the room is full or a read fails. It asks the C library itself:
-// `io::read_full` answers the same at an end and at a failure, and one more read after it would not
-// tell the two apart, since a failure such as a connection's reset is told once and then looks like an
-// end. Behind a full room no read is made: such an input is refused whatever follows.
-fn take_input(room: &mut [u8]) -> Taken
+// Reads until the input ends, the room is full or a read fails, and asks for each piece by itself: std's
+// `read_exact` takes an end for a failure, and std's `read_to_end` reads on past the room and after a signal.
+// After a failure no read is made, since a failure such as a connection's reset is told once and then
+// looks like an end. Behind a full room none is made either: such an input is refused whatever follows.
+fn take_input(source: &mut impl Read, room: &mut [u8]) -> Taken
     ensures { IsPrefixLen result.count room.new }
 {
     let mut count = 0;
     while count < room.len() {
-        let got = libc::read(STDIN_FILENO, &mut room[count..]);
-        if got < 0 {
-            return Taken {
-                count,
-                failed: true,
-            };
+        match source.read(&mut room[count..]) {
+            Ok(0) => {
+                return Taken {
+                    count,
+                    failed: false,
+                };
+            }
+            Ok(more) => count += more,
+            Err(_) => {
+                return Taken {
+                    count,
+                    failed: true,
+                };
+            }
         }
-        let more = io::count(got, &room[count..]);
-        if more == 0 {
-            return Taken {
-                count,
-                failed: false,
-            };
-        }
-        count += more;
     }
     Taken {
         count,
@@ -78,29 +79,33 @@ fn take_input(room: &mut [u8]) -> Taken
 }
 
 // Reads the input and writes its listing. Where a read failed nothing is listed: the listing of a
-// part would look like that of a whole capture.
-fn serve(input: &mut [u8], readings: &mut [u32], output: &mut [u8])
+// part would look like that of a whole capture. Where what is said of a failure cannot be written either,
+// nothing is left to do.
+fn serve(
+    rt: &(impl Input + Print + Eprint),
+    input: &mut [u8],
+    readings: &mut [u32],
+    output: &mut [u8],
+)
     requires { (8000 ≡ length readings.old) × (184040 ≡ length output.old) }
 {
-    let taken = take_input(input);
+    let taken = take_input(&mut rt.reader(), input);
     if taken.failed {
-        io::write_all(
-            STDERR_FILENO,
-            b"listing: the input could not be read to its end, so nothing is listed\n",
+        let _ = rt.eprintln(
+            "listing: the input could not be read to its end, so nothing is listed",
         );
         return;
     }
     let got = taken.count;
     let count = list(&input[..got], readings, output);
-    if io::write_all(STDOUT_FILENO, &output[..count]) {
-        return;
+    if rt.write_all(&output[..count]).is_err() {
+        let _ = rt.eprintln("listing: the output could not be written");
     }
-    io::write_all(STDERR_FILENO, b"listing: the output could not be written\n");
 }
 
-fn main() {
+fn main(rt: HostRuntime) {
     let mut input = input_space();
     let mut readings = reading_space();
     let mut output = output_space();
-    serve(&mut input, &mut readings, &mut output);
+    serve(&rt, &mut input, &mut readings, &mut output);
 }

@@ -1,93 +1,98 @@
 // A line: the words for a record and an event stand already; here come the answer, as kind and value, and what is left of the record.
 use answers::{Answer, KIND};
-use libc::STDOUT_FILENO;
 use line_reader::Reader;
 use port_state::{Device, Link, State};
 use port_step::{Event, step};
 
-pub(crate) fn say(words: &[u8]) {
-    io::write_all(STDOUT_FILENO, words);
+// Words. Where one piece cannot be written the next is tried all the same: rt holds the lines to the file stdout, and sees what is missing.
+pub(crate) fn say(rt: &impl Print, words: &str) {
+    let _ = rt.print(words);
 }
 
 // Words and a number behind them.
-fn say_with(words: &[u8], number: u64) {
-    say(words);
-    io::print_decimal(STDOUT_FILENO, number);
+fn say_with(rt: &impl Print, words: &str, number: u64) {
+    say(rt, words);
+    let _ = print!(rt; "{number}");
 }
 
-fn say_answer(answer: Answer) {
+// A page in twelve hexadecimal digits, or in as many as it needs.
+fn say_page(rt: &impl Print, page: u64) {
+    let _ = print!(rt; "{page:012x}");
+}
+
+fn say_answer(rt: &impl Print, answer: Answer) {
     let number = answer.packed();
-    say_with(b"answers kind ", number / KIND);
-    say_with(b" value ", number % KIND);
+    say_with(rt, "answers kind ", number / KIND);
+    say_with(rt, " value ", number % KIND);
 }
 
-fn say_state(state: State) {
+fn say_state(rt: &impl Print, state: State) {
     match state {
-        State::Off => say(b"; then off"),
-        State::Break => say(b"; then break"),
-        State::Ability => say(b"; then ability"),
-        State::Ack => say(b"; then ack"),
-        State::Complete => say(b"; then complete"),
-        State::CheckLink => say(b"; then check-link"),
-        State::Up => say(b"; then up"),
+        State::Off => say(rt, "; then off"),
+        State::Break => say(rt, "; then break"),
+        State::Ability => say(rt, "; then ability"),
+        State::Ack => say(rt, "; then ack"),
+        State::Complete => say(rt, "; then complete"),
+        State::CheckLink => say(rt, "; then check-link"),
+        State::Up => say(rt, "; then up"),
     }
 }
 
 // The own base page, the held one and the own Next Page, in hex.
-fn say_pages(own: u64, held: u64, next: u64) {
-    say(b", own ");
-    io::print_hex(STDOUT_FILENO, own, 12);
-    say(b", held ");
-    io::print_hex(STDOUT_FILENO, held, 12);
-    say(b", own next ");
-    io::print_hex(STDOUT_FILENO, next, 12);
+fn say_pages(rt: &impl Print, own: u64, held: u64, next: u64) {
+    say(rt, ", own ");
+    say_page(rt, own);
+    say(rt, ", held ");
+    say_page(rt, held);
+    say(rt, ", own next ");
+    say_page(rt, next);
 }
 
 // Whether a page is out, and the count.
-fn say_talk(out: bool, count: u32) {
+fn say_talk(rt: &impl Print, out: bool, count: u32) {
     if out {
-        say(b", page out");
+        say(rt, ", page out");
     } else {
-        say(b", no page out");
+        say(rt, ", no page out");
     }
-    say_with(b", count ", count as u64);
+    say_with(rt, ", count ", count as u64);
 }
 
-fn say_reader(reader: Reader) {
+fn say_reader(rt: &impl Print, reader: Reader) {
     match reader {
-        Reader::Fresh => say(b", reader fresh"),
+        Reader::Fresh => say(rt, ", reader fresh"),
         Reader::Open { at, last, bits } => {
-            say_with(b", reader open at ", at as u64);
-            say_with(b" since ", last as u64);
+            say_with(rt, ", reader open at ", at as u64);
+            say_with(rt, " since ", last as u64);
         }
-        Reader::Dropping { last } => say_with(b", reader dropping since ", last as u64),
+        Reader::Dropping { last } => say_with(rt, ", reader dropping since ", last as u64),
     }
 }
 
 // What is left of the link.
-fn say_link(link: Link) {
+fn say_link(rt: &impl Print, link: Link) {
     let talk = link.talk;
     let next = link.next;
-    say_pages(talk.own, talk.held, next.own);
-    say_talk(talk.out, talk.count);
+    say_pages(rt, talk.own, talk.held, next.own);
+    say_talk(rt, talk.out, talk.count);
     let reader = link.reader;
-    say_reader(reader);
+    say_reader(rt, reader);
 }
 
 // What is left of the record.
-fn say_device(device: Device) {
+fn say_device(rt: &impl Print, device: Device) {
     let state = device.state;
-    say_state(state);
+    say_state(rt, state);
     let link = device.link;
-    say_link(link);
+    say_link(rt, link);
 }
 
 // Gives the record the event, and tells what comes of it behind the words for both.
-pub(crate) fn tell(device: Device, event: Event) {
+pub(crate) fn tell(rt: &impl Print, device: Device, event: Event) {
     let reply = step(device, event);
     let answer = reply.answer;
-    say_answer(answer);
+    say_answer(rt, answer);
     let after = reply.device;
-    say_device(after);
-    say(b"\n");
+    say_device(rt, after);
+    say(rt, "\n");
 }
