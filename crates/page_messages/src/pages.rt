@@ -10,6 +10,7 @@ pub(crate) fn is_message_page(page: u64) -> bool
 }
 
 // A message page's code: D0-10 (2048 is 2^11).
+#[tactic(auto, unfolding(page_word::specs::Fields::part))]
 pub(crate) fn code_of(page: u64) -> u64
     ensures { result ≡ code_of page }
 {

@@ -9,6 +9,7 @@ ghost use Rattle.page_messages.specs.Readers.{cells_after};
 use crate::pages::{code_of, is_message_page};
 
 // The place of the first message page from a place on; the end of the run, if there is none.
+#[tactic(auto, using(crate::proofs::Looking::none_ahead, crate::proofs::Looking::one_ahead, crate::proofs::Looking::end_ahead))]
 fn next_message_page(pages: &[u64], from: usize) -> usize
     requires { from ≤ length pages.now }
     ensures { result ≡ from + length (unformatted_ahead (drop from pages.now)) }
