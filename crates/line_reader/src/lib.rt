@@ -1,5 +1,6 @@
 // The edge reader.
 #![tactic(auto)]
+
 mod endings;
 mod pattern;
 mod reader;

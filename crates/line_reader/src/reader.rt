@@ -117,6 +117,7 @@ fn step_on(mode: LineMode, at: u32, k: u32, bits: u64, reading: u32) -> Step
 }
 
 // A further edge of an attempt. Captures and devices share this body: small as it is, the compiler lays it into both their loops.
+#[tactic(auto, unfolding(crate::specs::Reading::edge_of, crate::specs::Reading::goes_on))]
 pub fn go_on(mode: LineMode, at: u32, last: u32, bits: u64, reading: u32) -> Step
     ensures { result ≡ edge_of mode (Open at last bits) reading }
 {
@@ -135,6 +136,7 @@ pub fn open_on(reading: u32) -> Step
 }
 
 // An edge after an attempt has ended.
+#[tactic(auto, unfolding(crate::specs::Reading::edge_of, crate::specs::Reading::drops_on))]
 pub fn drop_on(mode: LineMode, last: u32, reading: u32) -> Step
     ensures { result ≡ edge_of mode (Dropping last) reading }
 {
@@ -147,6 +149,7 @@ pub fn drop_on(mode: LineMode, last: u32, reading: u32) -> Step
 
 impl Reader {
     // Takes an edge at a clock reading.
+    #[tactic(auto, unfolding(crate::specs::Reading::edge_of))]
     pub fn edge(self, mode: LineMode, reading: u32) -> Step
         ensures { result ≡ edge_of mode self reading }
     {
