@@ -1,5 +1,6 @@
 // What a device remembers, and what is left of it where it goes into Break or Off.
 #![tactic(auto)]
+
 ghost use Rattle.std.specs.Prelude.{◌≡◌};
 ghost use Rattle.answers.specs.Answers.{said};
 ghost use Rattle.port_state.specs.Memory.{Meets, due, no_talk, no_next_pages, no_link, without_link, fresh_device, into_break, into_off};

@@ -77,6 +77,7 @@ fn one_if(test: bool) -> u8
 }
 
 // The state of a number.
+#[tactic(auto, unfolding(crate::specs::PlainRecords::state_of))]
 pub fn state_of(number: u8) -> State
     ensures { result ≡ state_of number }
 {
@@ -106,6 +107,7 @@ fn state_number(state: State) -> u8
 }
 
 // The round of a number.
+#[tactic(auto, unfolding(crate::specs::PlainRecords::round_of))]
 pub fn round_of(number: u8) -> Round
     ensures { result ≡ round_of number }
 {
@@ -127,6 +129,7 @@ fn round_number(round: Round) -> u8
 }
 
 // The reader of a kind's number, with what it holds.
+#[tactic(auto, unfolding(crate::specs::PlainRecords::reader_of))]
 pub fn reader_of(kind: u8, position: u32, last: u32, bits: u64) -> Reader
     ensures { result ≡ reader_of kind position last bits }
 {
@@ -170,6 +173,7 @@ pub fn reader_numbers(reader: Reader) -> ReaderNumbers
 // The kind of an outcome with a rate, as answers have it.
 pub const SETTLED: u8 = 130;
 
+#[tactic(auto, unfolding(crate::specs::PlainRecords::outcome_of))]
 fn outcome_of(kind: u8, ability: u8, master: bool) -> Outcome
     ensures { result ≡ outcome_of kind ability master }
 {
@@ -262,6 +266,7 @@ fn link_of(plain: PlainRecord) -> Link
 }
 
 // The device that a record means, whatever it holds.
+#[tactic(auto, unfolding(crate::specs::PlainRecords::device_of))]
 pub fn device_of(plain: PlainRecord) -> Device
     ensures { result ≡ device_of plain }
 {
@@ -273,6 +278,7 @@ pub fn device_of(plain: PlainRecord) -> Device
 }
 
 // The record of a device.
+#[tactic(auto, unfolding(crate::specs::PlainRecords::record_of))]
 pub fn record_of(device: Device) -> PlainRecord
     ensures { result ≡ record_of device }
 {
