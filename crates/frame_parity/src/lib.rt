@@ -1,5 +1,6 @@
 // The parity symbols of a frame, of data that come in bursts, in a state that the caller lends.
 #![tactic(auto)]
+
 mod bursts;
 mod finishing;
 mod lists;
