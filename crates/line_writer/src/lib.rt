@@ -1,5 +1,6 @@
 // The line: a page's transitions, writing a page.
 #![tactic(auto)]
+
 mod transitions;
 mod writer;
 

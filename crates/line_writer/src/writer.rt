@@ -52,6 +52,7 @@ fn write_in(list: &mut [u32], place: usize, mode: LineMode, word: u64, first: u3
 }
 
 // Writes a page's readings into the list from a place on.
+#[tactic(auto, unfolding(crate::specs::Writing::write_of))]
 pub fn write(list: &mut [u32], place: usize, mode: u32, word: u64, first: u32) -> Answer
     ensures says { said result ≡ (write_of mode list.old place word first).says }
     ensures leaves { list.new ≡ (write_of mode list.old place word first).list }
