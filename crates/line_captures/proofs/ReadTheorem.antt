@@ -2,7 +2,7 @@
 -- clock is not seen; in one record, for the numbers of any mode whose windows lie apart, and so for 01's two modes.
 use mathlib.Core.Path.{◌≡◌, sym, ap, ◌∙◌}
 use mathlib.Core.List.{List, [], ◌∷◌, ◌++◌, append-nil}
-use Prim.Native.Nat.{ℕ, ◌+◌, ◌-◌, ◌*◌, ◌%◌, ◌^◌, ◌<◌, ◌≤◌}
+use Prim.Native.Nat.{ℕ, ◌+◌, ◌*◌, ◌%◌, ◌^◌, ◌<◌, ◌≤◌}
 use lib.ListN.{length, drop}
 use Rattle.answers.specs.Answers.{put_at}
 use Rattle.line_mode.specs.declared.modes.LineMode.{LineMode}

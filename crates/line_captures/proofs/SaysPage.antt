@@ -1,5 +1,5 @@
 -- What is said tells what was heard: where an edge or a read call says a page, that page was heard or answered, and no other case says the same.
-use mathlib.Core.Path.{◌≡◌, refl, ap}
+use mathlib.Core.Path.{◌≡◌, ap}
 use Prim.Native.Nat.{ℕ}
 use native.Mathlib.Omega.{arith}
 use Rattle.answers.specs.Answers.{Said, page_read}

@@ -135,6 +135,7 @@ fn first_attempt(tail: &[u32], place: usize, mode: LineMode) -> ReadOutcome
 }
 
 // Reading in a mode whose numbers are known.
+#[tactic(auto, unfolding(crate::specs::Captures::read_in))]
 fn read_in(capture: &[u32], place: usize, mode: LineMode) -> ReadOutcome
     ensures { result ≡ read_in mode capture.now place }
 {
@@ -148,6 +149,7 @@ fn read_in(capture: &[u32], place: usize, mode: LineMode) -> ReadOutcome
 }
 
 // The first attempt from a place of a capture on: how it ends, and where the next one opens.
+#[tactic(auto, unfolding(crate::specs::Captures::read_of))]
 pub fn read(capture: &[u32], place: usize, mode: u32) -> ReadOutcome
     ensures { result ≡ read_of mode capture.now place }
 {

@@ -1,5 +1,6 @@
 // Reading captures: the first attempt from a place on, and where the next one opens.
 #![tactic(auto)]
+
 mod captures;
 
 pub use captures::{ReadOutcome, read};
