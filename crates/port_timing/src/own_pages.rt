@@ -7,6 +7,7 @@ use page_word::{Field, get, set};
 use port_state::{Link, is_base, own_in_round};
 
 // The nonce of the own page. Where the role is forced, T4 says which, and is not drawn.
+#[tactic(auto, unfolding(crate::specs::Ticks::nonce_for))]
 fn nonce_for(advertised: u64, draw: u64) -> u64
     ensures { result ≡ nonce_for advertised draw }
 {
@@ -27,6 +28,7 @@ fn one_if(test: bool) -> u64
 }
 
 // The own base page. It says that Next Pages are to follow if one is loaded.
+#[tactic(auto, unfolding(crate::specs::Ticks::own_page))]
 pub(crate) fn own_page(advertised: u64, draw: u64, loaded: bool) -> u64
     ensures { result ≡ own_page advertised draw loaded }
 {
@@ -38,6 +40,7 @@ pub(crate) fn own_page(advertised: u64, draw: u64, loaded: bool) -> u64
 }
 
 // The own base page with Ack and the partner's nonce.
+#[tactic(auto, unfolding(crate::specs::Ticks::echoing_page))]
 pub(crate) fn echoing_page(own: u64, held: u64) -> u64
     ensures { result ≡ echoing_page own held }
 {
@@ -46,6 +49,7 @@ pub(crate) fn echoing_page(own: u64, held: u64) -> u64
 }
 
 // The own page as it is ordered in Ack and Complete. A Next Page has no place for the partner's nonce.
+#[tactic(auto, unfolding(crate::specs::Ticks::acknowledging))]
 pub(crate) fn acknowledging(link: Link) -> u64
     ensures { result ≡ acknowledging link }
 {

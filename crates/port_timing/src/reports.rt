@@ -47,6 +47,7 @@ fn report_in_up(device: Device, up: bool, reading: u32) -> Device
 }
 
 // The event "link report".
+#[tactic(auto, unfolding(crate::specs::Sending::report_due))]
 pub fn report(device: Device, reading: u32, up: bool) -> Reply
     ensures { Meets result (report_due up reading device) }
 {

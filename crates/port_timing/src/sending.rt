@@ -55,6 +55,7 @@ fn go_on(device: Device, word: u64) -> Device
 
 // One end has more to send. The loaded page is next; an end that has said all sends the Null message; one that has announced a page and has none
 // loaded waits for it.
+#[tactic(auto, unfolding(crate::specs::Sending::next_or_null))]
 fn next_or_null(device: Device) -> Device
     ensures { result ≡ next_or_null device }
 {
@@ -69,6 +70,7 @@ fn next_or_null(device: Device) -> Device
 }
 
 // Three pages were sent: the end of the pages, or one more of them.
+#[tactic(auto, unfolding(crate::specs::Sending::decided))]
 fn decide(device: Device, reading: u32) -> Reply
     ensures { Meets result (decided rate_order reading device) }
 {
@@ -83,6 +85,7 @@ fn decide(device: Device, reading: u32) -> Reply
 }
 
 // One more page was sent in Complete.
+#[tactic(auto, unfolding(crate::specs::Sending::counted))]
 fn count(device: Device, reading: u32) -> Reply
     ensures { Meets result (counted rate_order reading device) }
 {
@@ -114,6 +117,7 @@ fn count_if_out(device: Device, reading: u32) -> Reply
 }
 
 // The event "page sent".
+#[tactic(auto, unfolding(crate::specs::Sending::sent_due))]
 pub fn sent(device: Device, reading: u32) -> Reply
     ensures { Meets result (sent_due rate_order reading device) }
 {

@@ -36,6 +36,7 @@ pub(crate) fn holds_back(quiet: u32, reader: Reader, reading: u32) -> bool
 }
 
 // Whether a page may be ordered.
+#[tactic(auto, unfolding(crate::specs::Ticks::may_order))]
 fn may_order(profile: Profile, device: Device, reading: u32) -> bool
     ensures { result ≡ may_order profile reading device.link }
 {
@@ -54,6 +55,7 @@ fn may_order(profile: Profile, device: Device, reading: u32) -> bool
 }
 
 // Orders a page, if one may be.
+#[tactic(auto, unfolding(crate::specs::Ticks::orders))]
 fn order(profile: Profile, device: Device, word: u64, reading: u32) -> Reply
     ensures { Meets result (orders profile reading word device) }
 {
@@ -64,6 +66,7 @@ fn order(profile: Profile, device: Device, word: u64, reading: u32) -> Reply
 }
 
 // Whether the partner has fallen silent while Next Pages are exchanged.
+#[tactic(auto, unfolding(crate::specs::Ticks::is_lost))]
 fn is_lost(profile: Profile, device: Device, reading: u32) -> bool
     ensures { result ≡ is_lost profile reading device.link }
 {
@@ -80,6 +83,7 @@ fn is_lost(profile: Profile, device: Device, reading: u32) -> bool
 }
 
 // A tick in Ability, Ack or Complete: the link is given up, or the page ordered if it may be.
+#[tactic(auto, unfolding(crate::specs::Ticks::talks))]
 fn talk(profile: Profile, device: Device, word: u64, reading: u32) -> Reply
     ensures { Meets result (talks profile reading word device) }
 {
@@ -112,6 +116,7 @@ fn tick_in_check_link(profile: Profile, device: Device, reading: u32, draw: u64)
 }
 
 // A tick, over any profile.
+#[tactic(auto, unfolding(crate::specs::Ticks::tick_due))]
 fn tick_by(profile: Profile, device: Device, reading: u32, draw: u64) -> Reply
     ensures { Meets result (tick_due profile reading draw device) }
 {
