@@ -1,5 +1,6 @@
 // The negotiation: what a tick, a page sent and a link report do; timers and orders.
 #![tactic(auto)]
+
 mod own_pages;
 mod profile;
 mod reports;
