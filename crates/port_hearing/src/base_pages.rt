@@ -20,6 +20,7 @@ fn hold(device: Device, word: u64, reading: u32) -> Device
 }
 
 // A good page in Ability.
+#[tactic(auto, unfolding(crate::specs::BasePages::base_page_in_ability))]
 pub(crate) fn base_page_in_ability(device: Device, word: u64, reading: u32) -> Reply
     ensures { Meets result (base_page_in_ability word reading device) }
 {
@@ -54,6 +55,7 @@ fn complete(device: Device, word: u64, reading: u32) -> Device
 }
 
 // A good page in Ack.
+#[tactic(auto, unfolding(crate::specs::BasePages::base_page_in_ack))]
 pub(crate) fn base_page_in_ack(device: Device, word: u64, reading: u32) -> Reply
     ensures { Meets result (base_page_in_ack word reading device) }
 {

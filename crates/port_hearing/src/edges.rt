@@ -14,6 +14,7 @@ use line_reader::{Ending, Heard};
 use port_state::{Device, Reply, State, answered, is_base, with_mark, with_reader};
 
 // A good page in Ability, by round.
+#[tactic(auto, unfolding(crate::specs::Edges::page_in_ability))]
 fn page_in_ability(device: Device, word: u64, reading: u32) -> Reply
     ensures { Meets result (page_in_ability word reading device) }
 {
@@ -27,6 +28,7 @@ fn page_in_ability(device: Device, word: u64, reading: u32) -> Reply
 }
 
 // A good page in Ack, by round.
+#[tactic(auto, unfolding(crate::specs::Edges::page_in_ack))]
 fn page_in_ack(device: Device, word: u64, reading: u32) -> Reply
     ensures { Meets result (page_in_ack word reading device) }
 {
@@ -40,6 +42,7 @@ fn page_in_ack(device: Device, word: u64, reading: u32) -> Reply
 }
 
 // A good page, by state.
+#[tactic(auto, unfolding(crate::specs::Edges::page_in))]
 fn page_in(device: Device, word: u64, reading: u32) -> Reply
     ensures { Meets result (page_in device.state word reading device) }
 {
@@ -56,6 +59,7 @@ fn page_in(device: Device, word: u64, reading: u32) -> Reply
 }
 
 // What was heard, once the reader has moved.
+#[tactic(auto, unfolding(crate::specs::Edges::hears))]
 fn hear(device: Device, heard: Heard, reading: u32) -> Reply
     ensures { Meets result (hears heard reading device) }
 {
@@ -108,6 +112,7 @@ pub fn takes_edges(state: State, out: bool) -> bool
 }
 
 // An edge, over any mode's numbers.
+#[tactic(auto, unfolding(crate::specs::Edges::edge_due))]
 fn edge_by(mode: LineMode, device: Device, reading: u32) -> Reply
     ensures { Meets result (edge_due mode reading device) }
 {

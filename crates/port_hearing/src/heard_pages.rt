@@ -16,6 +16,7 @@ pub(crate) fn take(device: Device, word: u64, reading: u32) -> Reply
 }
 
 // What of a Next Page counts as changed.
+#[tactic(auto, unfolding(crate::specs::BasePages::beyond_ack))]
 fn beyond_ack(word: u64) -> u64
     ensures { result ≡ beyond_ack word }
 {
@@ -23,6 +24,7 @@ fn beyond_ack(word: u64) -> u64
 }
 
 // What of a base page counts as changed.
+#[tactic(auto, unfolding(crate::specs::BasePages::beyond_ack_and_echo))]
 fn beyond_ack_and_echo(word: u64) -> u64
     ensures { result ≡ beyond_ack_and_echo word }
 {
@@ -44,6 +46,7 @@ pub(crate) fn is_changed_next(word: u64, held: u64) -> bool
 }
 
 // Whether a page is the held one once more. At round first the partner may still be sending its base page, with the echo or without.
+#[tactic(auto, unfolding(crate::specs::NextPages::repeats_held))]
 pub(crate) fn repeats_held(link: Link, word: u64) -> bool
     ensures { result ≡ repeats_held word link }
 {

@@ -1,5 +1,6 @@
 // The negotiation: what an edge does, and a page that is heard whole.
 #![tactic(auto)]
+
 mod base_pages;
 mod edges;
 mod heard_pages;

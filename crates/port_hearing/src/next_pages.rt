@@ -20,6 +20,7 @@ fn hold_next(device: Device, word: u64, reading: u32) -> Device
 }
 
 // In Ability. Two ends never finish their third sending at one moment, so the one that goes on first still hears the other's old page.
+#[tactic(auto, unfolding(crate::specs::NextPages::next_page_in_ability))]
 pub(crate) fn next_page_in_ability(device: Device, word: u64, reading: u32) -> Reply
     ensures { Meets result (next_page_in_ability word reading device) }
 {
@@ -48,6 +49,7 @@ fn complete_again(device: Device, word: u64, reading: u32) -> Device
 }
 
 // In Ack. A Next Page carries no nonces, so no echo is asked for.
+#[tactic(auto, unfolding(crate::specs::NextPages::next_page_in_ack))]
 pub(crate) fn next_page_in_ack(device: Device, word: u64, reading: u32) -> Reply
     ensures { Meets result (next_page_in_ack word reading device) }
 {
