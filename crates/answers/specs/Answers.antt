@@ -1,10 +1,10 @@
 -- What is said to the caller, for each case of an answer.
 -- 01, "Language forms in the code": "Whenever an answer is an enum, a definition gives this paper's number and values for each of the enum's cases. The promises use that definition."
-use Rattle.std.specs.Prelude.{ℕ, ◌+◌, ◌*◌, ◌%◌, ◌^◌, Bool, true, List, [], ◌∷◌, ◌++◌, length, take, drop}
+use Rattle.std.specs.Prelude.{ℕ, ◌+◌, ◌*◌, ◌%◌, ◌^◌, Bool, true, List, [], ◌∷◌, ◌++◌, length, take, drop, if◌then◌else◌}
 use Rattle.answers.specs.declared.Refusal.{Refusal}
 use Rattle.answers.specs.declared.Answer.{Answer}
 use Rattle.answers.specs.declared.Answer.TheVariants.{Nothing, Refused, Page, Order, Settled, Value, Number, Quiet, Unfit}
-use Rattle.answers.specs.Choices.{if◌then◌else◌, ◌<?◌, ◌=?◌}
+use Rattle.answers.specs.Choices.{◌<?◌, ◌=?◌}
 use Rattle.answers.specs.Numbers.{number_of}
 
 -- The kind is a refusal's number in 01's table, which requests have added to, 0 for nothing, or, of an answer that is no refusal, one of the numbers from

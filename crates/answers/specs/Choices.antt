@@ -1,9 +1,5 @@
--- How a definition chooses: `if .. then .. else ..`, and tests on numbers that are written as one reads them.
-use Rattle.std.specs.Prelude.{ℕ, Bool, cond, leb, ltb, eqb}
-
-infixr 10 if◌then◌else◌
-abbrev pub if◌then◌else◌ : {A : Type 0} → Bool → A → A → A
-if test then this else that = cond test this that
+-- How a definition chooses: tests on numbers that are written as one reads them. What it chooses by is the library's `if .. then .. else ..`.
+use Rattle.std.specs.Prelude.{ℕ, Bool, leb, ltb, eqb}
 
 -- Whether one number is at most another, less than it, the same.
 infix 40 ◌≤?◌

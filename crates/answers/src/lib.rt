@@ -1,8 +1,7 @@
 // The table of refusals of document 01, of its amendments and of requests of 02, and the one way in which an answer becomes a number.
 #![tactic(auto)]
 
-ghost use Rattle.std.specs.Prelude.{◌≡◌, ◌+◌};
-ghost use Rattle.answers.specs.Choices.{if◌then◌else◌};
+ghost use Rattle.std.specs.Prelude.{◌≡◌, ◌+◌, if◌then◌else◌};
 ghost use Rattle.answers.specs.Numbers.{number_of, refusal_of};
 ghost use Rattle.answers.specs.Answers.{said, packed, saying};
 

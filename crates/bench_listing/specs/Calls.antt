@@ -1,6 +1,6 @@
 -- The call that lists: what it says, and its two lent lists afterwards; and bytes put into a lent list.
-use Rattle.std.specs.Prelude.{ℕ, ◌+◌, ◌≤◌, ◌≡◌, ◌&&◌, List, length}
-use Rattle.answers.specs.Choices.{if◌then◌else◌, ◌≤?◌}
+use Rattle.std.specs.Prelude.{ℕ, ◌+◌, ◌≤◌, ◌≡◌, ◌&&◌, List, length, if◌then◌else◌}
+use Rattle.answers.specs.Choices.{◌≤?◌}
 use Rattle.answers.specs.Answers.{Said, refused, number, put_at}
 use Rattle.answers.specs.declared.Refusal.TheVariants.{Room}
 use Rattle.bench_listing.specs.Listing.{listing, listed_readings}

@@ -1,9 +1,9 @@
 -- The texts of a listing, as bytes, and its numbers.
-use Rattle.std.specs.Prelude.{ℕ, List, [], ◌∷◌}
+use Rattle.std.specs.Prelude.{ℕ, List, [], ◌∷◌, if◌then◌else◌}
 use Prim.Native.Char.{code}
 use Prim.Native.String.{String, [] as empty, ◌∷◌ as ◌then◌}
 use Rattle.io.specs.Digits.{last_digits}
-use Rattle.answers.specs.Choices.{if◌then◌else◌, ◌<?◌}
+use Rattle.answers.specs.Choices.{◌<?◌}
 
 -- The bytes of a text, letter by letter: each letter's number in ASCII.
 abbrev pub text : String → List ℕ

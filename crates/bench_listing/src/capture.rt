@@ -1,6 +1,5 @@
 // The listing of a capture.
-ghost use Rattle.std.specs.Prelude.{◌≡◌, ◌≤◌, length};
-ghost use Rattle.answers.specs.Choices.{if◌then◌else◌};
+ghost use Rattle.std.specs.Prelude.{◌≡◌, ◌≤◌, length, if◌then◌else◌};
 ghost use Rattle.bench_listing.specs.Calls.{Puts};
 ghost use Rattle.bench_listing.specs.Listing.{is_good, capture_listing};
 

@@ -1,8 +1,8 @@
 -- 02, request 10: "Symbols arrive in bursts, so it must take them as they come, however cut; the parity is the same." What a burst leaves of a lent state, and what a finish
 -- gives. "The lent state is 45 entries: the 44 symbols of the register, highest power first, then the count of symbols taken. All zero is a new frame. Entries past the
 -- 45th are not touched." (fixed interfaces) That the parity is the same, however the symbols are cut, is said in `AnyCutting`.
-use Rattle.std.specs.Prelude.{ℕ, ◌+◌, not, ◌&&◌, ◌||◌, List, [], ◌∷◌, ◌++◌, length, take, get_or}
-use Rattle.answers.specs.Choices.{if◌then◌else◌, ◌<?◌, ◌=?◌}
+use Rattle.std.specs.Prelude.{ℕ, ◌+◌, not, ◌&&◌, ◌||◌, List, [], ◌∷◌, ◌++◌, length, take, get_or, if◌then◌else◌}
+use Rattle.answers.specs.Choices.{◌<?◌, ◌=?◌}
 use Rattle.answers.specs.Answers.{number, Leaves, leaving, put_at, kept}
 use Rattle.answers.specs.declared.Refusal.TheVariants.{Room, Symbol, Count}
 use Rattle.polynomials.specs.Polynomials.{remainder_after}

@@ -1,6 +1,6 @@
 // A burst is taken into a lent state: its first 44 entries are the register, the next is the number of symbols taken. Entries behind these are not looked at.
-ghost use Rattle.std.specs.Prelude.{◌≡◌, ◌&&◌, [], ◌∷◌, ◌++◌, ◌+◌, ◌≤◌, length};
-ghost use Rattle.answers.specs.Choices.{if◌then◌else◌, ◌<?◌};
+ghost use Rattle.std.specs.Prelude.{◌≡◌, ◌&&◌, [], ◌∷◌, ◌++◌, ◌+◌, ◌≤◌, length, if◌then◌else◌};
+ghost use Rattle.answers.specs.Choices.{◌<?◌};
 ghost use Rattle.answers.specs.Answers.{said, put_at};
 ghost use Rattle.frame_polynomial.specs.Frame.{all_symbols};
 ghost use Rattle.frame_parity.specs.Taking.{register_of, count_of, entries_after, take_of};

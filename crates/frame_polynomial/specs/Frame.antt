@@ -1,8 +1,8 @@
 -- 02, request 10: "By document 004, 97.3.2.2, a frame has 406 data symbols of 9 bits (45 blocks of 81 bits and a 9-bit OAM symbol) and 44 parity symbols, over the field
 -- made by x^9 + x^4 + 1 with alpha = 2, generator the product of Z less alpha^i for i = 0 to 43, first symbol highest." A list of symbols is a polynomial in Z, the
 -- first symbol the coefficient of the highest power.
-use Rattle.std.specs.Prelude.{ℕ, zero, suc, ◌+◌, ◌≡◌, Bool, true, ◌&&◌, List, [], ◌∷◌, length, take, drop}
-use Rattle.answers.specs.Choices.{if◌then◌else◌, ◌=?◌}
+use Rattle.std.specs.Prelude.{ℕ, zero, suc, ◌+◌, ◌≡◌, Bool, true, ◌&&◌, List, [], ◌∷◌, length, take, drop, if◌then◌else◌}
+use Rattle.answers.specs.Choices.{◌=?◌}
 use Rattle.polynomials.specs.Polynomials.{multiplied, remainder_by}
 use Rattle.frame_field.specs.Field.{is_symbol, ◌⊕◌, ◌⊗◌, alpha, raised, symbols}
 

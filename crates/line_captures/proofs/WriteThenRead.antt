@@ -1,5 +1,6 @@
 -- What is written is read back. The readings of a page at nominal spacing have gaps of so many spacings each, which lie in their windows; so the
 -- theorem of ReadBack holds of them, also where they stand in a list among others.
+use Rattle.std.specs.Prelude.{if◌then◌else◌}
 use mathlib.Core.Path.{◌≡◌, refl, sym, ap, ap₂, ◌∙◌, subst}
 use mathlib.Core.Bool.{Bool, true, false}
 use mathlib.Core.List.{List, [], ◌∷◌, ◌++◌, map, map-append, Forall₂}
@@ -11,7 +12,6 @@ use lib.ListN.{length, take, drop, length-append}
 use lib.Seq.{drop_at, length-take-le}
 use borrow.Author.Tests.{le-ltb, ne_eqb, leb-false, ltb-false}
 use Rattle.page_word.specs.Word.{is_wide}
-use Rattle.answers.specs.Choices.{if◌then◌else◌}
 use Rattle.answers.specs.Answers.{Said, number, page_read, Leaves, leaving, put_at, kept}
 use Rattle.answers.specs.declared.Refusal.TheVariants.{Room, Wide, Mode}
 use Rattle.line_mode.specs.declared.modes.LineMode.{LineMode}

@@ -1,6 +1,6 @@
 -- 01, "The line": "A capture is a lent list of readings; reading starts at a place in the capture that the caller names, with a fresh reader."
-use Rattle.std.specs.Prelude.{ℕ, zero, suc, ◌+◌, Bool, true, false, List, [], ◌∷◌, length, drop}
-use Rattle.answers.specs.Choices.{if◌then◌else◌, ◌<?◌, ◌=?◌}
+use Rattle.std.specs.Prelude.{ℕ, zero, suc, ◌+◌, Bool, true, false, List, [], ◌∷◌, length, drop, if◌then◌else◌}
+use Rattle.answers.specs.Choices.{◌<?◌, ◌=?◌}
 use Rattle.answers.specs.Answers.{Said, nothing, refused}
 use Rattle.answers.specs.declared.Refusal.TheVariants as refusal
 use Rattle.line_mode.specs.declared.modes.LineMode.{LineMode}

@@ -1,8 +1,8 @@
 -- The customer's demand 2, for the line. 01, "What the promises have to say": "pages within the windows must be read". They are read as themselves,
 -- and nothing else is read as a page.
-use Rattle.std.specs.Prelude.{ℕ, ◌+◌, ◌-◌, ◌^◌, ◌<◌, ◌≤◌, ◌≡◌, Bool, true, length, drop}
+use Rattle.std.specs.Prelude.{ℕ, ◌+◌, ◌-◌, ◌^◌, ◌<◌, ◌≤◌, ◌≡◌, Bool, true, length, drop, if◌then◌else◌}
 use mathlib.Core.List.{List, [], ◌∷◌, ◌++◌, Forall₂}
-use Rattle.answers.specs.Choices.{if◌then◌else◌, ◌≤?◌}
+use Rattle.answers.specs.Choices.{◌≤?◌}
 use Rattle.answers.specs.Answers.{number, page_read}
 use Rattle.line_mode.specs.declared.modes.LineMode.{LineMode}
 use Rattle.line_mode.specs.Clock.{time_between}

@@ -1,6 +1,5 @@
 // Captures: the first attempt from a place on, and where the next one opens.
-ghost use Rattle.std.specs.Prelude.{◌≡◌, ℕ, ◌+◌, ◌≤◌, length, drop};
-ghost use Rattle.answers.specs.Choices.{if◌then◌else◌};
+ghost use Rattle.std.specs.Prelude.{◌≡◌, ℕ, ◌+◌, ◌≤◌, length, drop, if◌then◌else◌};
 ghost use Rattle.answers.specs.Answers.{said};
 ghost use Rattle.line_reader.specs.declared.reader.Reader.TheVariants.{Fresh, Open, Dropping};
 ghost use Rattle.line_captures.specs.Captures.{is_open, opens_at, attempt_of, read_in, read_of, said_of_read};

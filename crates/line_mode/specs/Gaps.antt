@@ -1,6 +1,6 @@
 -- 01, "The line": judging a gap, over the numbers of any mode.
-use Rattle.std.specs.Prelude.{ℕ, ◌+◌, ◌*◌, Bool, ◌&&◌}
-use Rattle.answers.specs.Choices.{if◌then◌else◌, ◌≤?◌}
+use Rattle.std.specs.Prelude.{ℕ, ◌+◌, ◌*◌, Bool, ◌&&◌, if◌then◌else◌}
+use Rattle.answers.specs.Choices.{◌≤?◌}
 use Rattle.answers.specs.Answers.{Said, refused, number, gap_quiet, gap_unfit}
 use Rattle.answers.specs.declared.Refusal.TheVariants.{Mode}
 use Rattle.line_mode.specs.declared.modes.LineMode.{LineMode}

@@ -1,6 +1,6 @@
 -- 01, "The line": "Each mode owns its numbers: spacing, tolerance, quiet limit."
-use Rattle.std.specs.Prelude.{ℕ, true, false}
-use Rattle.answers.specs.Choices.{if◌then◌else◌, ◌=?◌}
+use Rattle.std.specs.Prelude.{ℕ, true, false, if◌then◌else◌}
+use Rattle.answers.specs.Choices.{◌=?◌}
 use Rattle.line_mode.specs.declared.modes.LineMode.{LineMode}
 use Rattle.line_mode.specs.declared.modes.Found.{Found}
 use Rattle.line_mode.specs.declared.modes.Found.TheVariants.{Known, Unknown}

@@ -1,6 +1,6 @@
 // The two line modes, and how a gap is judged by a mode's numbers.
-ghost use Rattle.std.specs.Prelude.{◌≡◌};
-ghost use Rattle.answers.specs.Choices.{if◌then◌else◌, ◌≤?◌};
+ghost use Rattle.std.specs.Prelude.{◌≡◌, if◌then◌else◌};
+ghost use Rattle.answers.specs.Choices.{◌≤?◌};
 ghost use Rattle.answers.specs.Answers.{said};
 ghost use Rattle.line_mode.specs.declared.modes.Judgement.TheVariants.{Quiet, Unfit};
 ghost use Rattle.line_mode.specs.Modes.{hsm_mode, lsm_mode, mode_of};

@@ -1,5 +1,6 @@
 -- What stands at a position, by its kind: in the delimiter by the mode's list, then at odd positions a transition and at even ones a bit, up to
 -- the end. What a law says of both delimiters holds of every mode.
+use Rattle.std.specs.Prelude.{if◌then◌else◌}
 use mathlib.Core.Path.{◌≡◌, refl}
 use mathlib.Core.Bool.{Bool, true, false, and-false}
 use mathlib.Core.List.{[], ◌∷◌, ◌++◌}
@@ -7,7 +8,6 @@ use Prim.Native.Nat.{ℕ, ◌%◌, ◌<◌, ◌≤◌}
 use native.Mathlib.Omega.{arith}
 use lib.Dec.{leb, eqb}
 use borrow.Author.Tests.{leb-true, leb-false, eqb-false, le-leb, lt-leb, eq-eqb, ne_eqb}
-use Rattle.answers.specs.Choices.{if◌then◌else◌}
 use Rattle.page_word.specs.Word.{among}
 use Rattle.line_mode.specs.declared.modes.LineMode.{LineMode}
 use Rattle.line_page.specs.Pattern.{delimiter_of, mask_of, is_clock, is_bit, always, by_bit, never, stands_at}

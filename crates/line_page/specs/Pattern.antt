@@ -1,6 +1,6 @@
 -- 01, "The line": "A page has 157 evenly spaced positions." What stands at each of them.
-use Rattle.std.specs.Prelude.{ℕ, ◌+◌, ◌^◌, Bool, true, false, not, ◌&&◌, List, [], ◌∷◌}
-use Rattle.answers.specs.Choices.{if◌then◌else◌, ◌≤?◌}
+use Rattle.std.specs.Prelude.{ℕ, ◌+◌, ◌^◌, Bool, true, false, not, ◌&&◌, List, [], ◌∷◌, if◌then◌else◌}
+use Rattle.answers.specs.Choices.{◌≤?◌}
 use Rattle.page_word.specs.Word.{odd, among}
 use Rattle.line_mode.specs.declared.modes.LineMode.{LineMode}
 

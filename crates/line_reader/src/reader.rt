@@ -1,6 +1,6 @@
 // The edge reader: a reader by value, an edge in, what it says and the next reader out.
-ghost use Rattle.std.specs.Prelude.{◌≡◌, ◌+◌, ◌/◌, ◌^◌, ◌≤◌};
-ghost use Rattle.answers.specs.Choices.{if◌then◌else◌, ◌=?◌};
+ghost use Rattle.std.specs.Prelude.{◌≡◌, ◌+◌, ◌/◌, ◌^◌, ◌≤◌, if◌then◌else◌};
+ghost use Rattle.answers.specs.Choices.{◌=?◌};
 ghost use Rattle.line_mode.specs.declared.modes.Judgement.TheVariants.{Positions};
 ghost use Rattle.line_reader.specs.declared.endings.Heard.TheVariants.{Nothing, Ended};
 ghost use Rattle.line_reader.specs.declared.reader.Reader.TheVariants.{Open, Dropping};

@@ -1,7 +1,7 @@
 -- The four kinds of positions of a page, and the mask of its delimiter.
+use Rattle.std.specs.Prelude.{if◌then◌else◌}
 use Rattle.std.proofs.Common.{◌≡◌, ℕ, zero, suc, ◌+◌, ◌-◌, ◌*◌, ◌/◌, ◌%◌, ◌^◌, ◌<◌, ◌≤◌, Bool, true, false, eqb, List, length, get_or, sym, refl, ap, ◌∙◌, arith, eqb-true}
 use mathlib.Core.Bool.{beq}
-use Rattle.answers.specs.Choices.{if◌then◌else◌}
 use Rattle.page_word.specs.Word.{odd, among}
 use Rattle.page_word.proofs.ComputedTest.{every_below, at_each, beq_equal}
 use Rattle.page_check_bits.specs.CheckBits.{check_bits}

@@ -1,6 +1,5 @@
 -- 01, "The line": where a page's transitions are, and when.
-use Rattle.std.specs.Prelude.{ℕ, zero, suc, ◌+◌, ◌*◌, ◌%◌, ◌^◌, Bool, false, List, [], ◌∷◌, ◌++◌, map, length, slice_index_or}
-use Rattle.answers.specs.Choices.{if◌then◌else◌}
+use Rattle.std.specs.Prelude.{ℕ, zero, suc, ◌+◌, ◌*◌, ◌%◌, ◌^◌, Bool, false, List, [], ◌∷◌, ◌++◌, map, length, slice_index_or, if◌then◌else◌}
 use Rattle.page_word.specs.Word.{bits_of}
 use Rattle.page_check_bits.specs.CheckBits.{check_list}
 use Rattle.line_mode.specs.declared.modes.LineMode.{LineMode}

@@ -1,7 +1,7 @@
 -- 01, "The line": "Writing puts a page's readings into a lent list from a named place on, at nominal spacing from a given first reading modulo
 -- 2^32; it answers their number. All other entries keep their contents."
-use Rattle.std.specs.Prelude.{ℕ, ◌+◌, List, length}
-use Rattle.answers.specs.Choices.{if◌then◌else◌, ◌<?◌}
+use Rattle.std.specs.Prelude.{ℕ, ◌+◌, List, length, if◌then◌else◌}
+use Rattle.answers.specs.Choices.{◌<?◌}
 use Rattle.answers.specs.Answers.{number, Leaves, leaving, put_at, kept}
 use Rattle.answers.specs.declared.Refusal.TheVariants.{Room, Wide, Mode}
 use Rattle.page_word.specs.Word.{is_wide}

@@ -1,4 +1,5 @@
 -- What the call says and leaves, refusal by refusal, over the definitions alone.
+use Rattle.std.specs.Prelude.{if◌then◌else◌}
 use mathlib.Core.Path.{◌≡◌, refl, sym, ap, ◌∙◌}
 use mathlib.Core.Bool.{Bool, true, false, not}
 use mathlib.Core.List.{List, [], ◌∷◌}
@@ -8,7 +9,6 @@ use lib.ListN.{length, get_or}
 use lib.Seq.{sets, sets-eq}
 use borrow.Author.Tests.{lt-ltb, le-ltb}
 use Rattle.answers.specs.declared.Refusal.TheVariants.{Room, Wide, Run, Length}
-use Rattle.answers.specs.Choices.{if◌then◌else◌}
 use Rattle.answers.specs.Answers.{Said, Leaves, number, leaving, kept}
 use Rattle.page_messages.specs.Messages.{is_message_page, messages_in}
 use Rattle.page_messages.specs.Telling.{told_from, cells_of, message_cells, any_wide, unformatted_first, telling_of, messages_of}

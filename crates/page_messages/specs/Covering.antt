@@ -1,6 +1,6 @@
 -- 02, request 8: "Joined again they cover the run once."
-use Rattle.std.specs.Prelude.{ℕ, ◌+◌, ◌*◌, ◌≤◌, ◌≡◌, Bool, false, ◌&&◌, List, [], ◌∷◌, map, length, take, drop}
-use Rattle.answers.specs.Choices.{if◌then◌else◌, ◌≤?◌, ◌<?◌}
+use Rattle.std.specs.Prelude.{ℕ, ◌+◌, ◌*◌, ◌≤◌, ◌≡◌, Bool, false, ◌&&◌, List, [], ◌∷◌, map, length, take, drop, if◌then◌else◌}
+use Rattle.answers.specs.Choices.{◌≤?◌, ◌<?◌}
 use Rattle.page_messages.specs.Messages.{Message, pages_of, IsRun, messages_in}
 use Rattle.page_messages.specs.Telling.{Told, told_from, message_cells, unformatted_first}
 

@@ -1,7 +1,6 @@
 -- 02, request 8: "A run of at most 64 heard pages is a message page, the unformatted pages that belong to it, then the next message page, and so on; each message ends
 -- where the next begins."
-use Rattle.std.specs.Prelude.{ℕ, ◌≡◌, Bool, true, not, ◌&&◌, List, [], ◌∷◌, ◌++◌}
-use Rattle.answers.specs.Choices.{if◌then◌else◌}
+use Rattle.std.specs.Prelude.{ℕ, ◌≡◌, Bool, true, not, ◌&&◌, List, [], ◌∷◌, ◌++◌, if◌then◌else◌}
 use Rattle.page_word.specs.Word.{has_bit}
 use Rattle.page_word.specs.Fields.{part}
 

@@ -1,6 +1,6 @@
 -- 02, request 8: "Wanted: the list of messages, each with its code, first place and number of unformatted pages, in order."
-use Rattle.std.specs.Prelude.{ℕ, ◌+◌, Bool, false, not, ◌||◌, List, [], ◌∷◌, length}
-use Rattle.answers.specs.Choices.{if◌then◌else◌, ◌<?◌}
+use Rattle.std.specs.Prelude.{ℕ, ◌+◌, Bool, false, not, ◌||◌, List, [], ◌∷◌, length, if◌then◌else◌}
+use Rattle.answers.specs.Choices.{◌<?◌}
 use Rattle.answers.specs.Answers.{number, Leaves, leaving, put_at, kept}
 use Rattle.answers.specs.declared.Refusal.TheVariants.{Room, Wide, Run, Length}
 use Rattle.page_word.specs.Word.{is_wide}

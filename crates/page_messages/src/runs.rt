@@ -1,6 +1,5 @@
 // Reading a run: what is refused, and room for the messages.
-ghost use Rattle.std.specs.Prelude.{◌≡◌, true, ◌||◌, ◌≤◌, ◌<◌, length, get_or};
-ghost use Rattle.answers.specs.Choices.{if◌then◌else◌};
+ghost use Rattle.std.specs.Prelude.{◌≡◌, true, ◌||◌, ◌≤◌, ◌<◌, length, get_or, if◌then◌else◌};
 ghost use Rattle.answers.specs.Answers.{said};
 ghost use Rattle.page_messages.specs.Messages.{is_message_page, messages_in};
 ghost use Rattle.page_messages.specs.Telling.{any_wide, telling_of, messages_of};

@@ -1,7 +1,6 @@
 -- 01, "Rate and role": "Common bits, first in this order: A6 25GBASE-T1, A5 10G, A4 5G, A3 2.5G, A2 1000BASE-T1, A0 100BASE-T1, A1 10BASE-T1S
 -- full, A9 10BASE-T1L, A22 10BASE-T1S half. All others are ignored."
-use Rattle.std.specs.Prelude.{ℕ, Bool, ◌&&◌, List, [], ◌∷◌}
-use Rattle.answers.specs.Choices.{if◌then◌else◌}
+use Rattle.std.specs.Prelude.{ℕ, Bool, ◌&&◌, List, [], ◌∷◌, if◌then◌else◌}
 use Rattle.page_word.specs.Word.{has_bit}
 use Rattle.page_word.specs.Fields.{field_of}
 use Rattle.page_word.specs.declared.fields.Field.TheVariants.{Abilities}

@@ -1,7 +1,6 @@
 -- 01, "Rate and role": "Resolving is also a public call on any two words: Wide, Selector of either, Tie, None, Roles, in that order."
-use Rattle.std.specs.Prelude.{ℕ, true, false, ◌||◌, List}
+use Rattle.std.specs.Prelude.{ℕ, true, false, ◌||◌, List, if◌then◌else◌}
 use Rattle.answers.specs.declared.Refusal.TheVariants.{Wide, Selector, Tie, None, Roles}
-use Rattle.answers.specs.Choices.{if◌then◌else◌}
 use Rattle.answers.specs.Answers.{Said, refused, settled_on}
 use Rattle.page_word.specs.Word.{is_wide}
 use Rattle.page_word.specs.Fields.{has_other_selector, is_tie}

@@ -1,7 +1,7 @@
 -- 02, request 7, "Layouts: message page D0-10 code, D11 toggle, D12 Ack2, D13 one, D14 Ack, D15 NP, D16-47 32 unformatted bits; unformatted page D13 zero, D0-10 and
 -- D16-47 its 43 bits." Of these a device gives a meaning to D11, D14 and D15; the last two are Ack and NP of a base page too.
-use Rattle.std.specs.Prelude.{ℕ, Bool}
-use Rattle.answers.specs.Choices.{if◌then◌else◌, ◌=?◌}
+use Rattle.std.specs.Prelude.{ℕ, Bool, if◌then◌else◌}
+use Rattle.answers.specs.Choices.{◌=?◌}
 use Rattle.page_word.specs.declared.fields.Field.TheVariants.{Ack, NextPage}
 use Rattle.page_word.specs.Fields.{part, with_part, field_of, with_field}
 

@@ -1,7 +1,6 @@
 -- Polynomials whose coefficients are zero and one, and the numbers that have these as their bits.
-use Rattle.std.specs.Prelude.{ℕ, zero, suc, ◌+◌, ◌/◌, ◌^◌, Bool, false, ◌&&◌, List, [], ◌∷◌, length}
+use Rattle.std.specs.Prelude.{ℕ, zero, suc, ◌+◌, ◌/◌, ◌^◌, Bool, false, ◌&&◌, List, [], ◌∷◌, length, if◌then◌else◌}
 use Rattle.std.specs.Bool.{xor}
-use Rattle.answers.specs.Choices.{if◌then◌else◌}
 use Rattle.page_word.specs.Word.{odd}
 use Rattle.polynomials.specs.Polynomials.{Coefficients}
 

@@ -1,7 +1,7 @@
 -- 01, "The negotiation (LSM)": what a good page does in Ability and in Ack; by 01's amendments, at round base: "At round base, Ability and Ack are as in 01."
-use Rattle.std.specs.Prelude.{ℕ, Bool, true, not, ◌||◌}
+use Rattle.std.specs.Prelude.{ℕ, Bool, true, not, ◌||◌, if◌then◌else◌}
 use Rattle.answers.specs.declared.Refusal.TheVariants as refusal
-use Rattle.answers.specs.Choices.{if◌then◌else◌, ◌=?◌}
+use Rattle.answers.specs.Choices.{◌=?◌}
 use Rattle.answers.specs.Answers.{refused}
 use Rattle.page_word.specs.Fields.{field_of, with_field, has_other_selector, is_tie}
 use Rattle.page_word.specs.declared.fields.Field.TheVariants as field

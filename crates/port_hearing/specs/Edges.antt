@@ -1,6 +1,5 @@
 -- 01, "The negotiation (LSM)", and its amendments: the edge event, and what a good page does in each state and round.
-use Rattle.std.specs.Prelude.{ℕ, Bool, not, ◌&&◌}
-use Rattle.answers.specs.Choices.{if◌then◌else◌}
+use Rattle.std.specs.Prelude.{ℕ, Bool, not, ◌&&◌, if◌then◌else◌}
 use Rattle.answers.specs.Answers.{nothing}
 use Rattle.line_mode.specs.declared.modes.LineMode.{LineMode}
 use Rattle.line_reader.specs.declared.endings.Ending.TheVariants.{Good, Gap, Cut, Check}

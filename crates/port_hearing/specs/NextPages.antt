@@ -1,8 +1,8 @@
 -- 01's amendments, request 7: what a good page does in Ability and in Ack at round first or later. "Selector, Tie, Echo and Remote fault are not looked at in a Next
 -- Page, Toggle in Ability only."
-use Rattle.std.specs.Prelude.{ℕ, Bool, true, not}
+use Rattle.std.specs.Prelude.{ℕ, Bool, true, not, if◌then◌else◌}
 use Rattle.answers.specs.declared.Refusal.TheVariants as refusal
-use Rattle.answers.specs.Choices.{if◌then◌else◌, ◌=?◌}
+use Rattle.answers.specs.Choices.{◌=?◌}
 use Rattle.answers.specs.Answers.{refused}
 use Rattle.page_word.specs.Fields.{field_of}
 use Rattle.page_word.specs.NextPages.{same_toggle}

@@ -1,9 +1,10 @@
 -- What is told quickly is what is due: of an edge, of a tick, of a read.
+use Rattle.std.specs.Prelude.{if◌then◌else◌}
 use Prim.Native.Nat.{ℕ, ◌%◌, ◌^◌}
 use mathlib.Core.Path.{◌≡◌, refl, sym, ap, ap₂, ◌∙◌, subst}
 use mathlib.Core.Bool.{Bool, true, false, not, ◌&&◌, ◌||◌, and_comm, true≢false}
 use borrow.Author.Tests.{ne_eqb}
-use Rattle.answers.specs.Choices.{if◌then◌else◌, ◌=?◌}
+use Rattle.answers.specs.Choices.{◌=?◌}
 use Rattle.answers.specs.Answers.{packed, nothing, register_value}
 use Rattle.answers.specs.Numbers.{refusal_of}
 use Rattle.page_resolve.specs.declared.resolving.Resolution.TheVariants.{Refused, Settled}

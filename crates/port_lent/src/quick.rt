@@ -1,6 +1,5 @@
 // Events that change at most the reader. To store a whole record costs more than such an event does; so what is to be stored is told apart first.
-ghost use Rattle.std.specs.Prelude.{◌≡◌, false, not, ◌&&◌, ◌||◌, ℕ};
-ghost use Rattle.answers.specs.Choices.{if◌then◌else◌};
+ghost use Rattle.std.specs.Prelude.{◌≡◌, false, not, ◌&&◌, ◌||◌, ℕ, if◌then◌else◌};
 ghost use Rattle.answers.specs.Answers.{packed, nothing, register_value};
 ghost use Rattle.page_word.specs.Thirds.{third_of};
 ghost use Rattle.line_mode.specs.Modes.{lsm_mode};

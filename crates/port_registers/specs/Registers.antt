@@ -1,7 +1,7 @@
 -- 01, "Registers (MMD 7)", and its amendments, "Registers".
-use Rattle.std.specs.Prelude.{ℕ, ◌+◌, ◌-◌, ◌/◌, ◌%◌, ◌^◌, Bool, true, false, ◌||◌}
+use Rattle.std.specs.Prelude.{ℕ, ◌+◌, ◌-◌, ◌/◌, ◌%◌, ◌^◌, Bool, true, false, ◌||◌, if◌then◌else◌}
 use Rattle.answers.specs.declared.Refusal.TheVariants as refusal
-use Rattle.answers.specs.Choices.{if◌then◌else◌, ◌<?◌, ◌=?◌}
+use Rattle.answers.specs.Choices.{◌<?◌, ◌=?◌}
 use Rattle.answers.specs.Answers.{nothing, refused, register_value}
 use Rattle.page_word.specs.Word.{has_bit}
 use Rattle.page_word.specs.declared.thirds.Third.{Third}

@@ -1,7 +1,7 @@
 // The registers 7.512 to 7.525: reading and writing them.
 #![tactic(auto)]
-ghost use Rattle.std.specs.Prelude.{◌≡◌, ◌≤◌, ◌/◌, ◌%◌, ◌^◌};
-ghost use Rattle.answers.specs.Choices.{if◌then◌else◌, ◌=?◌};
+ghost use Rattle.std.specs.Prelude.{◌≡◌, ◌≤◌, ◌/◌, ◌%◌, ◌^◌, if◌then◌else◌};
+ghost use Rattle.answers.specs.Choices.{◌=?◌};
 ghost use Rattle.answers.specs.Answers.{register_value};
 ghost use Rattle.port_state.specs.Memory.{Meets, due, is_off, is_up};
 ghost use Rattle.port_registers.specs.Registers.{third_at, in_bank, register_of, bank_of, status_bits, status_value, status_read, read_due, enters_break_by, commanded, loads, transmit_written, bank_written, write_due};

@@ -1,7 +1,7 @@
 -- 02, request 14, "on a record that the caller lends": the device as plain numbers, for a caller that knows no enum (fixed interfaces, request 14: "what device a record means, at any content; what
 -- record a device has").
-use Rattle.std.specs.Prelude.{ℕ, Bool, not}
-use Rattle.answers.specs.Choices.{if◌then◌else◌, ◌=?◌}
+use Rattle.std.specs.Prelude.{ℕ, Bool, not, if◌then◌else◌}
+use Rattle.answers.specs.Choices.{◌=?◌}
 use Rattle.answers.specs.Numbers.{number_of, refusal_of}
 use Rattle.page_resolve.specs.declared.resolving.Resolution.TheVariants.{Refused, Settled}
 use Rattle.line_reader.specs.declared.reader.Reader.{Reader}

@@ -1,6 +1,5 @@
 // The device as a record of plain numbers, in which a caller that knows no enum can keep it. Any content means some device.
-ghost use Rattle.std.specs.Prelude.{◌≡◌};
-ghost use Rattle.answers.specs.Choices.{if◌then◌else◌};
+ghost use Rattle.std.specs.Prelude.{◌≡◌, if◌then◌else◌};
 ghost use Rattle.port_state.specs.PlainRecords.{is_set, one_if, state_of, state_number, round_of, round_number, reader_of, reader_numbers, outcome_of, outcome_numbers, lasting_of, talk_of, next_pages_of, link_of, device_of, record_of};
 
 use crate::rounds::Round;

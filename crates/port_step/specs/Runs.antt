@@ -1,7 +1,7 @@
 -- The run call: a fresh device takes events as numbers and gives one answer for each. The numbers are those of the fixed interfaces.
-use Rattle.std.specs.Prelude.{ℕ, ◌/◌, ◌%◌, ◌^◌, not, List, [], ◌∷◌, map, length}
+use Rattle.std.specs.Prelude.{ℕ, ◌/◌, ◌%◌, ◌^◌, not, List, [], ◌∷◌, map, length, if◌then◌else◌}
 use Rattle.answers.specs.declared.Refusal.TheVariants.{Room}
-use Rattle.answers.specs.Choices.{if◌then◌else◌, ◌≤?◌, ◌=?◌}
+use Rattle.answers.specs.Choices.{◌≤?◌, ◌=?◌}
 use Rattle.answers.specs.Answers.{packed, number, Leaves, leaving, put_at, kept}
 use Rattle.port_state.specs.Memory.{fresh_device}
 use Rattle.port_step.specs.declared.events.Event.{Event}

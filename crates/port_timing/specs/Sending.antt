@@ -1,7 +1,7 @@
 -- 01, "The negotiation (LSM)", and its amendments: the events "page sent" and "link report".
-use Rattle.std.specs.Prelude.{ℕ, ◌+◌, false, Bool, true, ◌||◌, List}
+use Rattle.std.specs.Prelude.{ℕ, ◌+◌, false, Bool, true, ◌||◌, List, if◌then◌else◌}
 use Rattle.answers.specs.declared.Refusal.TheVariants.{Turn}
-use Rattle.answers.specs.Choices.{if◌then◌else◌, ◌≤?◌}
+use Rattle.answers.specs.Choices.{◌≤?◌}
 use Rattle.answers.specs.Answers.{nothing, refused}
 use Rattle.page_resolve.specs.Resolving.{resolution_of, said_of}
 use Rattle.port_state.specs.declared.State.{State}

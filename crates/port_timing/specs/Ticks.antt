@@ -1,6 +1,6 @@
 -- 01, "The negotiation (LSM)", and its amendments: the tick event, with its draw; the timers that it looks at, the pages that it orders.
-use Rattle.std.specs.Prelude.{ℕ, ◌+◌, ◌%◌, Bool, true, false, not, ◌&&◌, [], ◌∷◌}
-use Rattle.answers.specs.Choices.{if◌then◌else◌, ◌≤?◌, ◌=?◌, ◌<?◌}
+use Rattle.std.specs.Prelude.{ℕ, ◌+◌, ◌%◌, Bool, true, false, not, ◌&&◌, [], ◌∷◌, if◌then◌else◌}
+use Rattle.answers.specs.Choices.{◌≤?◌, ◌=?◌, ◌<?◌}
 use Rattle.page_resolve.specs.Roles.{is_forced, has_t4}
 use Rattle.page_resolve.specs.declared.resolving.Resolution.TheVariants.{Refused, Settled}
 use Rattle.line_mode.specs.Clock.{time_between}

@@ -1,6 +1,5 @@
 // The pages that a device makes and orders.
-ghost use Rattle.std.specs.Prelude.{◌≡◌};
-ghost use Rattle.answers.specs.Choices.{if◌then◌else◌};
+ghost use Rattle.std.specs.Prelude.{◌≡◌, if◌then◌else◌};
 ghost use Rattle.port_timing.specs.Ticks.{nonce_for, own_page, echoing_page, acknowledging};
 
 use page_word::{Field, get, set};

@@ -1,6 +1,5 @@
 // What a tick looks at, by itself: whether a wait is over at low speed. A tick that finds none over does nothing.
-ghost use Rattle.std.specs.Prelude.{◌≡◌};
-ghost use Rattle.answers.specs.Choices.{if◌then◌else◌};
+ghost use Rattle.std.specs.Prelude.{◌≡◌, if◌then◌else◌};
 ghost use Rattle.port_timing.specs.Ticks.{run_out, low_speed, inhibit, inhibit_for, holds_back};
 
 use crate::profile::{INHIBIT, inhibit_for, low_speed, run_out};

@@ -1,8 +1,8 @@
 -- The customer's demand 2, at a device: "transitions after quiet or a fresh start, each gap in its window, read back as the page sent, and no others read as a
 -- page." `ReadingBack` says it of the edge reader and of captures; here it is said of a device after any events from fresh on, over the edges that it takes.
-use Rattle.std.specs.Prelude.{ℕ, ◌^◌, ◌<◌, ◌≡◌, Bool, true, false, not, ◌&&◌, ◌||◌, List, [], ◌∷◌, ◌++◌, map}
+use Rattle.std.specs.Prelude.{ℕ, ◌^◌, ◌<◌, ◌≡◌, Bool, true, false, not, ◌&&◌, ◌||◌, List, [], ◌∷◌, ◌++◌, map, if◌then◌else◌}
 use Rattle.answers.specs.declared.Refusal.TheVariants.{Cut}
-use Rattle.answers.specs.Choices.{if◌then◌else◌, ◌=?◌}
+use Rattle.answers.specs.Choices.{◌=?◌}
 use Rattle.answers.specs.Answers.{Said, nothing, refused, page_read}
 use Rattle.page_word.specs.Word.{among}
 use Rattle.line_mode.specs.Modes.{lsm_mode}

@@ -1,7 +1,7 @@
 -- Facts about Next Pages: neither end tells or takes a page twice in a row, what 517-519 and 523-525 read as was heard on this link, when rate and role are resolved, and
 -- that they hang on the base pages.
-use Rattle.std.specs.Prelude.{ℕ, ◌+◌, ◌≡◌, Bool, true, false, not, ◌&&◌, ◌||◌, List, [], ◌∷◌, ◌++◌}
-use Rattle.answers.specs.Choices.{if◌then◌else◌, ◌≤?◌, ◌=?◌}
+use Rattle.std.specs.Prelude.{ℕ, ◌+◌, ◌≡◌, Bool, true, false, not, ◌&&◌, ◌||◌, List, [], ◌∷◌, ◌++◌, if◌then◌else◌}
+use Rattle.answers.specs.Choices.{◌≤?◌, ◌=?◌}
 use Rattle.answers.specs.Answers.{page_ordered}
 use Rattle.page_word.specs.Word.{among}
 use Rattle.page_word.specs.Fields.{field_of}

@@ -1,6 +1,6 @@
 -- Links on which Next Pages are exchanged, worked out: both ends of a wire, and one end with what it hears given.
-use Rattle.std.specs.Prelude.{ℕ, ◌+◌, ◌^◌, ◌≡◌, true, false, List, [], ◌∷◌, ◌++◌}
-use Rattle.answers.specs.Choices.{if◌then◌else◌, ◌=?◌}
+use Rattle.std.specs.Prelude.{ℕ, ◌+◌, ◌^◌, ◌≡◌, true, false, List, [], ◌∷◌, ◌++◌, if◌then◌else◌}
+use Rattle.answers.specs.Choices.{◌=?◌}
 use Rattle.answers.specs.declared.Refusal.TheVariants.{Changed, Toggle}
 use Rattle.answers.specs.Answers.{Said, nothing, refused, page_read, page_ordered, settled_on, register_value, spoken}
 use Rattle.page_resolve.specs.declared.resolving.Resolution.TheVariants.{Settled}

@@ -1,7 +1,6 @@
 -- What the check bits are, without the steps of a division, and what they are worth: no small damage to a page makes another page of it.
-use Rattle.std.specs.Prelude.{ℕ, zero, suc, ◌+◌, ◌%◌, ◌^◌, ◌<◌, ◌≤◌, ◌≡◌, Bool, List, ◌++◌, length}
+use Rattle.std.specs.Prelude.{ℕ, zero, suc, ◌+◌, ◌%◌, ◌^◌, ◌<◌, ◌≤◌, ◌≡◌, Bool, List, ◌++◌, length, if◌then◌else◌}
 use Rattle.std.specs.Bool.{xor}
-use Rattle.answers.specs.Choices.{if◌then◌else◌}
 use Rattle.page_word.specs.Word.{bits_of, among}
 use Rattle.polynomials.specs.Polynomials.{multiplied}
 use Rattle.polynomials.specs.Binary.{binary}

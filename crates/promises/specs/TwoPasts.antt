@@ -1,8 +1,8 @@
 -- The customer's demand 3: "Take two modules with any two pasts from fresh, each just gone into Break, with the same advertisement registers. Give both the
 -- same later events and draws, the second's clock readings all shifted by the difference of their entry readings modulo 2^32. Then every answer, register value and
 -- ordered page, as demand 2 defines them, is the same at both. Only bits 6 and 4 of register 7.513 may differ, up to and with its first read."
-use Rattle.std.specs.Prelude.{ℕ, ◌+◌, ◌%◌, ◌^◌, ◌≡◌, Bool, true, false, not, ◌&&◌, ◌||◌, List, [], ◌∷◌, map}
-use Rattle.answers.specs.Choices.{if◌then◌else◌, ◌=?◌}
+use Rattle.std.specs.Prelude.{ℕ, ◌+◌, ◌%◌, ◌^◌, ◌≡◌, Bool, true, false, not, ◌&&◌, ◌||◌, List, [], ◌∷◌, map, if◌then◌else◌}
+use Rattle.answers.specs.Choices.{◌=?◌}
 use Rattle.answers.specs.Answers.{Said, saying, page_ordered}
 use Rattle.page_word.specs.Word.{has_bit}
 use Rattle.page_word.specs.Fields.{with_part}

@@ -1,8 +1,8 @@
 -- T4 as a number, 16 or 0, is what is left of T above its four lowest bits.
+use Rattle.std.specs.Prelude.{if◌then◌else◌}
 use Rattle.std.proofs.Common.{◌≡◌, ℕ, Bool, true, false, ◌+◌, ◌*◌, ◌/◌, ◌%◌, ◌^◌, ◌<◌, refl, ap, arith}
 use borrow.Author.Tests.{eq-eqb, eqb-true, eqb-false}
 use lib.Dec.{eqb}
-use Rattle.answers.specs.Choices.{if◌then◌else◌}
 use Rattle.page_word.specs.Word.{has_bit}
 use Rattle.page_word.proofs.FieldLaws.{part_below}
 use Rattle.port_timing.specs.Ticks.{nonce_for}
