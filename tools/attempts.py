@@ -67,7 +67,7 @@ def command():
     """The words that run the program, which is proved and built first if it is not there, and the environment for it."""
     if subprocess.run([TOOLS / 'build', 'listing']).returncode != 0:
         raise NoCapture('the program listing could not be built')
-    run = subprocess.run([TOOLS / 'run', '--command', TOOLS.parent / 'target/bin/listing'], stdout=subprocess.PIPE)
+    run = subprocess.run([TOOLS / 'run', '--command', TOOLS.parent / 'crates/listing/out/listing'], stdout=subprocess.PIPE)
     if run.returncode != 0:
         raise NoCapture('the program listing cannot be run here')
     # The emulator takes options from such variables, and one that is set by chance would change the run.

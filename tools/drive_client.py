@@ -54,7 +54,7 @@ def run_of(calls):
         first, place = place + 1, place + 1 + cells[place]
         answers.append(list(cells[first:place]))
     if len(out) % 8 or place != len(cells) or len(answers) != len(calls):
-        raise NoAnswer(f"drive does not answer operation {calls[-1][0]}; 'rt check drive' builds it anew")
+        raise NoAnswer(f"drive does not answer operation {calls[-1][0]}; 'tools/build drive' builds it anew")
     return answers
 
 

@@ -4,7 +4,7 @@
 
 run_program() { # SCRIPT PROGRAM ARGUMENTS..
     local folder=${1%/*} self
-    if [ $# = 2 ]; then exec "$folder/run" "$folder/../target/bin/$2"; fi
+    if [ $# = 2 ]; then exec "$folder/run" "$folder/../crates/$2/out/$2"; fi
     self=$(readlink -f -- "$1")
     # shellcheck source=tools/help.sh
     . "${self%/*}/help.sh"

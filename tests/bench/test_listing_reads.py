@@ -1,6 +1,6 @@
 """How the program `listing` reads: an input that it cannot read to its end is not listed, and one that comes in pieces is. Nearly every input that
 breaks off does so behind a whole capture, so a program that takes the failure for the end lists it. And how it ends where its listing cannot be
-written. `rt check listing` builds the program."""
+written. `tools/build listing` builds the program."""
 import os
 import pathlib
 import signal
