@@ -9,21 +9,26 @@ and has one or more replacements, as the kit's guide has them (`file:`, `old:`, 
 is wrong. A second line of `old:` or `new:` would be passed over, and the edit change something else than it says, or nothing. The
 check of a crate costs the same with one wrong answer as with ten, and a function's proof speaks of the functions it calls only by their
 contracts. So a file has as many wrong answers as are refused each at a declaration of its own. PLACE is a file of proofs/ without
-its ending, and for a function's proof the folder alone; a proof that the compiler makes itself counts as if it stood there."""
+its ending, and for a function's proof the folder alone; a goal that the prover has to show itself counts as if it stood there."""
 import re
 
 WRONG = 'wrong: '
 REFUSED_AT = 'refused at: '
 REPLACEMENT = ('file: ', 'old: ', 'new:')
 # A refusal that only follows from another.
-FOLLOWS = 'was not admitted'
-# A refusal that shows nothing about the promise: a proof that no longer fits the code.
+FOLLOWS = re.compile(r'was (?:not admitted|rejected)')
+# A refusal that shows nothing about the promise: a proof that no longer fits the code. What stands in back ticks is told as a dot.
 MISFIT = re.compile(
-    r'has no field|is not in scope|not found|unknown|cannot be found|too many arguments|too few arguments|expected a function|'
-    r'takes? (?:only )?\d+ arguments?|no such|does not name|parse|syntax|is not declared|unexpected|ends before|can be named from here')
-ERROR = re.compile(r'^proofs/(\S+?)(?:/Proof)?\.antt:\d+:\d+: error: `([^`]+)`: ')
-UNPROVED = re.compile(r'^note: (src/\S+: it is not proved that .* \(`([^`]+)`\))$')
-MADE_BY_SEARCH = re.compile(r'^fn \S+: no proof: expected `[^`]+` in proofs/(\S+)/Proof\.antt; `search` does not close (.*)$')
+    r'has no (?:field|·)|is not in scope|is no name|not found|unknown|cannot be found|too many arguments|too few arguments|expected a function|'
+    r'takes? (?:only )?\d+ arguments?|no such|does not name|parse|syntax|is not declared|unexpected|ends before|can be named from here|'
+    r'operand is missing|expected the end|cannot continue|write (?:both|a space)|is written right after')
+QUOTED = re.compile(r'`[^`]*`')
+# A lemma, or a goal of a function whose proof has an answer of its own.
+ERROR = re.compile(r'^(?:\./)?proofs/(\S+?)(?:/(?:Answers|Invariants|Proof))?\.antt:\d+:\d+: error: `([^`]+)`: ')
+# A goal that the prover has to show itself: the note on it, the line on its function, and then what it is.
+UNPROVED = re.compile(r'^note: (src/\S+: it is not proved that .* \(`([^`]+)`\).*)$')
+UNANSWERED = re.compile(r'^fn \S+: no proof: expected answers in (?:\./)?proofs/(\S+)/Answers\.antt; `search` did not prove (.*?)(?:; it calls .*)?$')
+GOAL = re.compile(r'^note: (`([^`]+)` of (?:\./)?proofs/(\S+)/Answers\.antt must prove: .*)$')
 
 
 class Wrong:
@@ -87,15 +92,19 @@ def refusals(log):
     """Each place at which a log has a refusal that stands at a fact, with the refusal's first line."""
     lines, found, pending = log.split('\n'), {}, {}
     for i, line in enumerate(lines):
-        error, unproved, search = ERROR.match(line), UNPROVED.match(line), MADE_BY_SEARCH.match(line)
-        whole = ' '.join([line] + [more for more in lines[i + 1:i + 3] if more.startswith('  ')])
-        if error and FOLLOWS not in line and not MISFIT.search(whole):
-            found.setdefault(f'{error[1]} {error[2]}', line)
+        error, unproved, unanswered, goal = ERROR.match(line), UNPROVED.match(line), UNANSWERED.match(line), GOAL.match(line)
+        if error:
+            whole = ' '.join([line[error.end():]] + [more for more in lines[i + 1:i + 3] if more.startswith('  ')])
+            whole = QUOTED.sub('·', whole)
+            if not FOLLOWS.search(whole) and not MISFIT.search(whole):
+                found.setdefault(f'{error[1]} {error[2]}', line)
         if unproved:
             pending[unproved[2]] = unproved[1]
-        if search:
-            for need in re.findall(r'`([^`]+)`', search[2]):
-                found.setdefault(f'{search[1]} {need}', pending.get(need, line))
+        if unanswered:
+            for name in QUOTED.findall(unanswered[2]):
+                found.setdefault(f'{unanswered[1]} {name[1:-1]}', pending.get(name[1:-1], line))
+        if goal and f'{goal[3]} {goal[2]}' in found:
+            found[f'{goal[3]} {goal[2]}'] = goal[1]
         if line.startswith('fn '):
             pending = {}
     return found
