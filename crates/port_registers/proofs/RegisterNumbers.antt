@@ -1,6 +1,6 @@
 -- Which numbers name 512 and 513: what is shown of a register's kind holds of its number. And a law over all banks.
 use Prim.Native.Nat.{ℕ, ◌-◌, ◌/◌, ◌%◌}
-use mathlib.Core.Path.{◌≡◌, refl, sym, ap, ◌∙◌}
+use mathlib.Core.Path.{◌≡◌, refl, sym, ◌∙◌}
 use mathlib.Core.Bool.{Bool, true, false, cond}
 use native.Mathlib.Omega.{arith}
 use lib.Dec.{eqb, ltb}

@@ -1,5 +1,6 @@
 // The registers 7.512 to 7.525: reading and writing them.
 #![tactic(auto)]
+
 ghost use Rattle.std.specs.Prelude.{◌≡◌, ◌≤◌, ◌/◌, ◌%◌, ◌^◌, if◌then◌else◌};
 ghost use Rattle.answers.specs.Choices.{◌=?◌};
 ghost use Rattle.answers.specs.Answers.{register_value};
@@ -75,6 +76,7 @@ fn in_bank(bank: u64, third: Third) -> Register
     Register::Missing
 }
 
+#[tactic(auto, unfolding(crate::specs::Registers::register_of))]
 fn register_of(number: u64) -> Register
     ensures { result ≡ register_of number }
 {
@@ -153,6 +155,7 @@ fn bit_if(test: bool, value: u16) -> u16
 }
 
 // What 513 reads as.
+#[tactic(auto, unfolding(crate::specs::Registers::status_bits))]
 fn status_value(received: bool, up: bool, fault: bool, latch: bool) -> u16
     ensures { result ≡ status_bits received up fault latch }
 {
@@ -186,6 +189,7 @@ fn read_status(device: Device) -> Reply
 }
 
 // Reads a register.
+#[tactic(auto, unfolding(crate::specs::Registers::read_due))]
 pub fn read(device: Device, register: u64) -> Reply
     ensures { Meets result (read_due register device) }
 {
@@ -220,6 +224,7 @@ fn restarts(value: u16, state: State) -> bool
 }
 
 // The device after a write to 512.
+#[tactic(auto, unfolding(crate::specs::Registers::commanded))]
 fn command(device: Device, value: u16, reading: u32) -> Device
     ensures { result ≡ commanded value reading device }
 {
@@ -271,6 +276,7 @@ fn write_bank(device: Device, bank: Bank, third: Third, value: u16) -> Device
 }
 
 // Writes a register at a clock reading.
+#[tactic(auto, unfolding(crate::specs::Registers::write_due))]
 pub fn write(device: Device, register: u64, value: u16, reading: u32) -> Reply
     ensures { Meets result (write_due register value reading device) }
 {
