@@ -35,6 +35,7 @@ pub enum Event {
 }
 
 // Takes an event.
+#[tactic(auto, unfolding(crate::specs::Steps::step_over))]
 pub fn step(device: Device, event: Event) -> Reply
     ensures { Meets result (step_due event device) }
 {

@@ -1,5 +1,6 @@
 // The device: one step for each event, by value and where the device lies, and events as numbers.
 #![tactic(auto)]
+
 mod events;
 mod in_place;
 mod numbers;
