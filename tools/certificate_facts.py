@@ -13,17 +13,26 @@ import shutil
 import subprocess
 from dataclasses import dataclass, field
 
+from public_functions import without_comments
 from wrong_answers import of_repository
 
-FILES = ['target/bin/drive', 'target/bin/listing', 'target/staticlib/libmaststep.a', 'include/maststep.h']
+FILES = ['crates/drive/out/drive', 'crates/listing/out/listing', 'crates/maststep/out/libmaststep.a', 'include/maststep.h']
+LIBRARY = 'maststep'
 PROCESSORS = {'x86_64': 'x86-64', 'aarch64': 'Arm, 64 bits'}
 VERDICT = re.compile(r'^logic=proved functions=(\d+) (.*)$')
-AXIOMS = re.compile(r'^axioms \w+: (.*?)(?: \(.*\))?$')
-PROVED = re.compile(r'^rt: (\w+) proved \(\d+ s\)$')
+AXIOMS = re.compile(r'^axioms \w+: (?!none reached )(.*?)(?: \(.*\))?$')
+# What rt says next is of this crate, or of its tests: in rt ci behind a headline, else each function and type is named with its crate.
+HEADLINE = re.compile(r'^== (\w+)(: .*)?$')
+MEMBER = re.compile(r'^(?:fn|enum|struct) (\w+)::')
+KEPT = re.compile(r'^rt: (\w+) is kept: an earlier run on this machine proved the same files over the same libraries$', re.M)
 WHOLE_SUM = re.compile(r'^logic .* sum=([0-9a-f]{64})$', re.M)
 EDIT_REFUSED = re.compile(r'^rt: must-fail \S+: refused, as it must be', re.M)
 # Words of a verdict that say what was proved; all others say what was trusted.
-NO_TRUST = {'axioms', 'target', 'sum'}
+NO_TRUST = {'axioms', 'target', 'cpu', 'sum'}
+
+
+# The step of the gate that proves.
+PROOF = 'tools/proved'
 
 
 @dataclass
@@ -38,7 +47,7 @@ class Step:
 
 @dataclass
 class Verdict:
-    """What rt says of a crate that is proved: how many functions, what of C's library is assumed, what is trusted."""
+    """What rt says of a crate that is proved: how many functions, which C functions are assumed to do what the kit states, what is trusted."""
     functions: int
     assumed: list
     trusted: list
@@ -52,6 +61,7 @@ class Facts:
     skipped: list = field(default_factory=list)
     machine: list = field(default_factory=list)
     crates: int = 0
+    functions: int = 0
     definitions: int = 0
     wrong_answers: int = 0
     sums: dict = field(default_factory=dict)
@@ -68,30 +78,44 @@ class Facts:
 
 
 def verdicts(output):
-    """The verdict on each crate that rt has proved, by the crate's name. The line with the name ends what rt says of a crate."""
-    found, assumed, last = {}, [], None
+    """The verdict on each crate that rt has proved, by the crate's name. What it says of a crate's tests does not count."""
+    found, crate, assumed, of_tests = {}, None, [], False
     for line in output.splitlines():
-        axioms, verdict, proved = AXIOMS.match(line), VERDICT.match(line), PROVED.match(line)
-        if axioms:
+        headline, member, axioms, verdict = HEADLINE.match(line), MEMBER.match(line), AXIOMS.match(line), VERDICT.match(line)
+        if headline:
+            crate, assumed, of_tests = headline[1], [], headline[2] is not None
+        elif member and member[1] != crate:
+            crate, assumed, of_tests = member[1], [], False
+        elif axioms:
             assumed += axioms[1].split(', ')
         elif verdict:
             words = [word for word in verdict[2].split() if word.split('=')[0] not in NO_TRUST]
-            last = Verdict(int(verdict[1]), assumed, words)
-        elif proved and last:
-            found[proved[1]] = last
-        if line.startswith('rt: '):
-            assumed, last = [], None
+            if crate and not of_tests:
+                found[crate] = Verdict(int(verdict[1]), assumed, words)
+            crate, assumed, of_tests = None, [], False
     return found
 
 
-def verdict_of_library(output):
-    """The verdict on the C library, in what `rt staticlib` and the C test write; None where there is none."""
-    return verdicts(re.sub(r'^rt: target/staticlib/.*$', 'rt: library proved (0 s)', output, flags=re.M)).get('library')
+def proved(facts):
+    """The verdict on each crate that rt has proved in this run."""
+    return verdicts(facts.step(PROOF).output)
+
+
+def kept(facts):
+    """The crates that rt has taken as an earlier run on this machine proved them."""
+    return sorted(set(KEPT.findall(facts.step(PROOF).output)))
+
+
+def built(facts):
+    """The verdict on each program and on the C library, where the gate has built it; None where there is none."""
+    again, library = verdicts(facts.step('tools/built-twice').output), verdicts(facts.step('c_test').output)
+    first = proved(facts)
+    return {'drive': first.get('drive') or again.get('drive'), 'listing': first.get('listing') or again.get('listing'), 'libmaststep.a': library.get(LIBRARY)}
 
 
 def whole_sums(facts):
     """The sum of the logic in full, as rt prints it with each crate: one, where all were proved in the same."""
-    return sorted(set(WHOLE_SUM.findall(facts.step('rt ci').output)))
+    return sorted({found for command in (PROOF, 'c_test', 'tools/built-twice') for found in WHOLE_SUM.findall(facts.step(command).output)})
 
 
 def kit(facts):
@@ -103,7 +127,7 @@ def kit(facts):
 
 
 def edits_refused(facts):
-    return len(EDIT_REFUSED.findall(facts.step('rt ci').output))
+    return len(EDIT_REFUSED.findall(facts.step(PROOF).output))
 
 
 def output_of(*command):
@@ -148,7 +172,7 @@ def machine(root):
     return [
         ('Processor', PROCESSORS.get(processor, processor)),
         ('System', f'{platform.system()} {platform.release()}'),
-        ("The kit's compiler", first_line(str(home / 'on' / processor / 'toolchain/bin/clang'), '--version')),
+        ("The kit's compiler", first_line(str(home / 'toolchain/bin/clang'), '--version')),
         ('C, for a test', version_of(root, 'c')),
         ('C++, for a test', version_of(root, 'c++')),
         ('Rust, for tests', first_line('rustc', '--version')),
@@ -159,6 +183,11 @@ def machine(root):
 def crates_of(root):
     """How many crates crates.txt has."""
     return sum(':' in line.split('#')[0] for line in (root / 'crates.txt').read_text().splitlines())
+
+
+def functions_of(root):
+    """How many functions the code has."""
+    return sum(len(re.findall(r'\bfn\s+\w+', without_comments(path.read_text()))) for path in root.glob('crates/*/src/*.rt'))
 
 
 def lines_of_definitions(root):
@@ -184,6 +213,7 @@ def of_record(root, record):
         skipped=[line for line in (record / 'skipped').read_text().splitlines() if line],
         machine=machine(root),
         crates=crates_of(root),
+        functions=functions_of(root),
         definitions=lines_of_definitions(root),
         wrong_answers=len(of_repository(root)),
         sums={name: sum_of(root / name) for name in FILES},

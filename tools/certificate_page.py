@@ -1,7 +1,7 @@
 """The certificate as a page of plain text: made of the facts alone (certificate_facts.py), in lines of at most 100 columns."""
 import textwrap
 
-from certificate_facts import edits_refused, kit, verdict_of_library, verdicts, whole_sums
+from certificate_facts import built, edits_refused, kept, kit, proved, whole_sums
 
 PASSED = 'MASTSTEP: CERTIFICATE. THE GATE PASSED'
 FAILED = 'MASTSTEP: NO CERTIFICATE. THE GATE FAILED'
@@ -11,8 +11,10 @@ LABEL = 22
 # What the words mean by which rt says that it trusted something.
 TRUST = {
     'logic-built=trusted': "the kit's own logic is taken as its makers built and checked it; this run did not check it again.",
-    'libraries-built=trusted': "each crate takes those below it as proved: Maststep's own were proved in this run, from nothing; those of "
+    'libraries-built=trusted': "each crate takes those below it as proved: Maststep's own as this run proved them or kept them (part 3); those of "
                                'the kit are taken as its makers built and checked them.',
+    'statements=trusted': 'of a crate below it each takes the statements alone, without the proofs, which were checked with that crate.',
+    'incremental=trusted': 'the C library, and the programs as they were built again, were proved on top of what earlier checks on this machine saved.',
     'native=nat,char,string': 'the checker computes with numbers, letters and texts by ordinary code of its own, which no proof covers.',
 }
 NOT_SAID = [
@@ -54,7 +56,7 @@ def failures(facts):
     found = []
     if facts.failed():
         found.append(f'{plural(facts.failed(), "check")} failed; part 3 tells in which step.')
-    if not facts.passed() or not verdicts(facts.step('rt ci').output):
+    if not facts.passed() or not proved(facts) and not kept(facts):
         found.append('There is no record that anything was proved.')
     used, logic = whole_sums(facts), kit(facts)[1].split()[-1]
     if len(used) != 1 or not used[0].startswith(logic):
@@ -74,6 +76,8 @@ def reservations(facts):
     if facts.ended['changes']:
         yield 'The files were not those of the commit (part 1): nobody else can get this version by its commit.'
     yield from (f'Note: {note}.' for note in kit(facts)[2])
+    if kept(facts):
+        yield 'Not all was proved in this run (part 3).'
     if facts.skipped:
         yield 'Something could not be tried (part 5).'
 
@@ -92,7 +96,7 @@ def head(facts):
         yield paragraph(counts + (' With these reservations:' if warnings else ' Without reservation.'))
     yield from map(item, warnings)
     yield '\n' + paragraph(
-        'The gate is the command .ci/run, which proves and tests the Maststep core from nothing. It wrote this page at its end. A check is one '
+        'The gate is the command .ci/run, which proves and tests the Maststep core. It wrote this page at its end. A check is one '
         'thing that holds or does not; the steps in part 3 count them. Names such as docs/AUDITING.md are files of the repository.')
 
 
@@ -124,11 +128,15 @@ def made_with(facts):
 
 
 def functions(facts):
-    proved = verdicts(facts.step('rt ci').output)
-    count = sum(verdict.functions for verdict in proved.values())
-    by_crate = ', '.join(f'{name} {verdict.functions}' for name, verdict in sorted(proved.items()))
-    return (f'{count}, in {len(proved)} of {facts.crates} crates (the parts of the program). Each is proved to meet its contract, to be safe and to end; '
-            f'no public one asks anything of its caller. By crate: {by_crate}')
+    now, earlier = proved(facts), kept(facts)
+    count = sum(verdict.functions for verdict in now.values())
+    by_crate = ', '.join(f'{name} {verdict.functions}' for name, verdict in sorted(now.items())) or 'none'
+    words = (f'the code has {facts.functions}, in {facts.crates} crates (the parts of the program). Each is proved to meet its contract, to be safe and to '
+             f'end; no public one asks anything of its caller. Proved in this run: {count}, in {plural(len(now), "crate")}: {by_crate}')
+    if earlier:
+        words += (f'. Kept, {plural(len(earlier), "crate")}: rt took them as an earlier run on this machine proved them, from the same files over the same '
+                  f'libraries, by its own record of that: {", ".join(earlier)}')
+    return words
 
 
 def edits(facts):
@@ -150,11 +158,10 @@ def found(facts):
 
 
 def assumed(facts):
-    proved = verdicts(facts.step('rt ci').output)
-    built = {'drive': proved.get('drive'), 'listing': proved.get('listing'), 'libmaststep.a': verdict_of_library(facts.step('c_test').output)}
-    trusted = sorted({word for verdict in [*proved.values(), *built.values()] if verdict for word in verdict.trusted})
+    made = built(facts)
+    trusted = sorted({word for verdict in [*proved(facts).values(), *made.values()] if verdict for word in verdict.trusted})
     yield '4. What was assumed\n'
-    for name, verdict in built.items():
+    for name, verdict in made.items():
         words = 'not known' if verdict is None else ', '.join(verdict.assumed) or "nothing of the C library"
         yield item(f'By {name}: {words}' + (', which are taken to do what the kit states of them.' if verdict and verdict.assumed else '.'))
     for word in trusted:
