@@ -4,12 +4,17 @@ A function is public if it is `pub` without a restriction: `pub fn`, `pub extern
 import collections
 import re
 
-PUBLIC = re.compile(r'\bpub\s+(?:const\s+)?(?:extern\s+"[^"]*"\s+)?fn\s+(\w+)')
+PUBLIC = re.compile(r'\bpub\s+(?:const\s+)?(?:unsafe\s+)?(?:extern\s+"[^"]*"\s+)?fn\s+(\w+)')
 CLAUSE = re.compile(r'\b(requires|ensures|ghost|decreases)\b|[{;]')
 
 # owner is the type whose method it is, or ''; has_result tells whether it gives one; clauses are the words of its contract, in order, and statements what stands between the
 # brackets of each.
 PublicFunction = collections.namedtuple('PublicFunction', 'owner name line has_result clauses statements')
+
+
+def sources_below(folder):
+    """The files of code below a folder; what rt makes of them, in out/, has such files too."""
+    return sorted(path for path in folder.rglob('*.rt') if 'out' not in path.relative_to(folder).parts)
 
 
 def without_comments(source):
