@@ -9,7 +9,7 @@ use Rattle.line_reader.specs.declared.endings.Ending.{Ending}
 use Rattle.line_reader.specs.declared.endings.Ending.TheVariants.{Good, Gap, Cut, Check}
 use Rattle.answers.specs.declared.Refusal.{Refusal}
 use Rattle.answers.specs.Numbers.{number_of}
-use Rattle.bench_listing.specs.Words.{text, decimal, hex_digits}
+use Rattle.bench_listing.specs.Words.{text, decimal}
 use Rattle.bench_listing.specs.Listing.{mode_name, first_line, ending_word, attempt_line, last_line, refused_line}
 use Rattle.bench_listing.proofs.NumberLaws.{decimal_short, hex_length}
 

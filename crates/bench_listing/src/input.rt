@@ -99,6 +99,7 @@ fn list_input(input: &[u8], readings: &mut [u32], output: &mut [u8]) -> usize
 }
 
 // Lists the input: the text at the head of the output, its readings at the head of the list of readings. Answers the text's length.
+#[tactic(auto, unfolding(crate::specs::Calls::listed))]
 pub fn list(input: &[u8], readings: &mut [u32], output: &mut [u8]) -> Answer
     ensures says { said result ≡ (listed input.now readings.old output.old).says }
     ensures readings { readings.new ≡ (listed input.now readings.old output.old).readings }

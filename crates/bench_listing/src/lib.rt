@@ -1,5 +1,6 @@
 // The bench listing of a capture: from the bytes of the input to the bytes of the text.
 #![tactic(auto)]
+
 mod capture;
 mod input;
 mod text;
