@@ -6,7 +6,12 @@ ghost use Rattle.io.specs.Counts.{IsPrefixLen};
 ghost use Rattle.bench_listing.specs.Listing.{listing};
 
 use answers::KIND;
-use std::io::Read;
+use std::io;
+use std::io::{ErrorKind, Read};
+use std::process::ExitCode;
+
+// 128 and the number of SIGPIPE.
+const READER_GONE: u8 = 141;
 
 // Room for the longest input and one byte more, so that a longer one is seen to be too long.
 fn input_space() -> [u8; 32002]
@@ -78,34 +83,47 @@ fn take_input(source: &mut impl Read, room: &mut [u8]) -> Taken
     }
 }
 
-// Reads the input and writes its listing. Where a read failed nothing is listed: the listing of a
-// part would look like that of a whole capture. Where what is said of a failure cannot be written either,
-// nothing is left to do.
-fn serve(
-    rt: &(impl Input + Print + Eprint),
-    input: &mut [u8],
-    readings: &mut [u32],
-    output: &mut [u8],
-)
-    requires { (8000 ≡ length readings.old) × (184040 ≡ length output.old) }
-{
-    let taken = take_input(&mut rt.reader(), input);
-    if taken.failed {
-        let _ = rt.eprintln(
-            "listing: the input could not be read to its end, so nothing is listed",
-        );
-        return;
-    }
-    let got = taken.count;
-    let count = list(&input[..got], readings, output);
-    if rt.write_all(&output[..count]).is_err() {
-        let _ = rt.eprintln("listing: the output could not be written");
+// How the program ends behind its last write: well, also where nothing could be written. Only where the reader
+// of a pipe has gone does it end with the status that a shell shows of a program which the signal SIGPIPE
+// ended: a program that Rattle starts ignores that signal, and its write fails instead.
+fn ended_by(written: io::Result<()>) -> ExitCode {
+    match written {
+        Err(error) if error.kind() == ErrorKind::BrokenPipe => ExitCode::from(READER_GONE),
+        _ => ExitCode::SUCCESS,
     }
 }
 
-fn main(rt: HostRuntime) {
+// Reads the input and writes its listing. Where a read failed nothing is listed: the listing of a
+// part would look like that of a whole capture. Where the reader of the listing has gone nothing is said of it.
+fn serve(
+    rt: &(impl Print + Eprint),
+    source: &mut impl Read,
+    input: &mut [u8],
+    readings: &mut [u32],
+    output: &mut [u8],
+) -> ExitCode
+    requires { (8000 ≡ length readings.old) × (184040 ≡ length output.old) }
+{
+    let taken = take_input(source, input);
+    if taken.failed {
+        let said = rt.eprintln(
+            "listing: the input could not be read to its end, so nothing is listed",
+        );
+        return ended_by(said);
+    }
+    let got = taken.count;
+    let count = list(&input[..got], readings, output);
+    match rt.write_all(&output[..count]) {
+        Err(error) if error.kind() != ErrorKind::BrokenPipe => {
+            ended_by(rt.eprintln("listing: the output could not be written"))
+        }
+        written => ended_by(written),
+    }
+}
+
+fn main(rt: HostRuntime) -> ExitCode {
     let mut input = input_space();
     let mut readings = reading_space();
     let mut output = output_space();
-    serve(&rt, &mut input, &mut readings, &mut output);
+    serve(&rt, &mut rt.stdin(), &mut input, &mut readings, &mut output)
 }
