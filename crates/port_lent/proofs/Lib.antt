@@ -1,4 +1,3 @@
-pub mod CodeRead
 pub mod QuickLaws
 pub mod LentLaws
 pub mod RunLoop

@@ -23,7 +23,6 @@ use Rattle.port_state.specs.declared.State.{State}
 use Rattle.port_state.specs.declared.State.TheVariants.{Off, Break, Ability, Ack, Complete, CheckLink, Up}
 use Rattle.port_state.specs.declared.Outcome.TheVariants.{NoneYet, Resolved}
 use Rattle.port_state.specs.declared.Device.{Device}
-use Rattle.port_state.specs.declared.Link.{Link}
 use Rattle.port_state.specs.declared.plain_record.PlainRecord.{PlainRecord}
 use Rattle.port_state.specs.declared.plain_record.ReaderNumbers.{ReaderNumbers}
 use Rattle.port_state.specs.Memory.{Due, due, is_talking}

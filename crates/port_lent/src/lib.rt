@@ -1,5 +1,6 @@
 // A device that a caller keeps as plain numbers and lends, and a run of events from a fresh one.
 #![tactic(auto)]
+
 mod lent;
 mod quick;
 mod runs;

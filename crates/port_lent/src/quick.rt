@@ -72,6 +72,7 @@ fn moved(step: Step) -> Quick
 }
 
 // Whether a page is due, if none is out. Few ticks find the mark old enough, so the reader is looked at last.
+#[tactic(auto, unfolding(port_state::specs::PlainRecords::device_of))]
 fn page_is_due(plain: PlainRecord, reading: u32) -> bool
     ensures { result ≡ (run_out (if (device_of plain).link.talk.heard then low_speed.silent else low_speed.wait) (device_of plain).link.talk.mark reading && not (holds_back low_speed.mode.quiet (device_of plain).link.reader reading)) }
 {
@@ -150,6 +151,7 @@ fn value(word: u64, third: Third) -> Quick
 }
 
 // A read of a register of a bank.
+#[tactic(auto, unfolding(port_registers::specs::Registers::register_of, port_registers::specs::Registers::read_due, port_state::specs::PlainRecords::device_of))]
 fn quick_read(plain: PlainRecord, register: u64) -> Quick
     ensures { Fits result plain (read_due register (device_of plain)) }
 {
