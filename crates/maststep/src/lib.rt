@@ -1,5 +1,6 @@
 // The C functions of the static library, thin over the crates: each gives the answer as one number. include/maststep.h declares them.
 #![tactic(auto)]
+
 ghost use Rattle.std.specs.Prelude.{◌≡◌};
 ghost use Rattle.answers.specs.Answers.{packed};
 ghost use Rattle.page_check_bits.specs.CheckBits.{checked};
@@ -28,6 +29,7 @@ pub extern "C" fn maststep_check(word: u64) -> u64
 
 // What two words settle on, ability and role, or 13, 4, 5, 8, 9.
 #[unsafe(no_mangle)]
+#[tactic(auto, unfolding(page_resolve::specs::Resolving::resolve_says))]
 pub extern "C" fn maststep_resolve(own: u64, partner: u64) -> u64
     ensures { result ≡ packed (resolve_says own partner) }
 {
