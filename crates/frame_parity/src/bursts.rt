@@ -55,6 +55,7 @@ fn take_in(state: &mut [u16], burst: &[u16], count: usize)
 }
 
 // Takes a burst into a lent state: the number of symbols taken so far.
+#[tactic(auto, unfolding(crate::specs::Taking::take_of))]
 pub fn take_burst(state: &mut [u16], burst: &[u16]) -> Answer
     ensures says { said result ≡ (take_of state.old burst.now).says }
     ensures leaves { state.new ≡ (take_of state.old burst.now).list }

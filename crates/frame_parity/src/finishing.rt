@@ -7,6 +7,7 @@ use crate::lists::{DATA_SYMBOLS, PARITY_SYMBOLS, STATE_ENTRIES, all_symbols, put
 use answers::{Answer, Refusal};
 
 // Gives the parity symbols of a state that has taken all data of a frame.
+#[tactic(auto, unfolding(crate::specs::Taking::finish_of))]
 pub fn finish(state: &[u16], parity: &mut [u16]) -> Answer
     ensures says { said result ≡ (finish_of state.now parity.old).says }
     ensures leaves { parity.new ≡ (finish_of state.now parity.old).list }
