@@ -3,30 +3,24 @@ use answers::{Answer, KIND};
 use line_reader::Reader;
 use port_state::{Device, Link, State};
 use port_step::{Event, step};
+use std::io;
 
-// Words. Where one piece cannot be written the next is tried all the same: rt holds the lines to the file stdout, and sees what is missing.
-pub(crate) fn say(rt: &impl Print, words: &str) {
-    let _ = rt.print(words);
+pub(crate) fn say(rt: &impl Print, words: &str) -> io::Result<()> {
+    rt.print(words)
 }
 
 // Words and a number behind them.
-fn say_with(rt: &impl Print, words: &str, number: u64) {
-    say(rt, words);
-    let _ = print!(rt; "{number}");
+fn say_with(rt: &impl Print, words: &str, number: u64) -> io::Result<()> {
+    print!(rt; "{words}{number}")
 }
 
-// A page in twelve hexadecimal digits, or in as many as it needs.
-fn say_page(rt: &impl Print, page: u64) {
-    let _ = print!(rt; "{page:012x}");
-}
-
-fn say_answer(rt: &impl Print, answer: Answer) {
+fn say_answer(rt: &impl Print, answer: Answer) -> io::Result<()> {
     let number = answer.packed();
-    say_with(rt, "answers kind ", number / KIND);
-    say_with(rt, " value ", number % KIND);
+    say_with(rt, "answers kind ", number / KIND)?;
+    say_with(rt, " value ", number % KIND)
 }
 
-fn say_state(rt: &impl Print, state: State) {
+fn say_state(rt: &impl Print, state: State) -> io::Result<()> {
     match state {
         State::Off => say(rt, "; then off"),
         State::Break => say(rt, "; then break"),
@@ -39,60 +33,55 @@ fn say_state(rt: &impl Print, state: State) {
 }
 
 // The own base page, the held one and the own Next Page, in hex.
-fn say_pages(rt: &impl Print, own: u64, held: u64, next: u64) {
-    say(rt, ", own ");
-    say_page(rt, own);
-    say(rt, ", held ");
-    say_page(rt, held);
-    say(rt, ", own next ");
-    say_page(rt, next);
+fn say_pages(rt: &impl Print, own: u64, held: u64, next: u64) -> io::Result<()> {
+    print!(rt; ", own {own:012x}, held {held:012x}, own next {next:012x}")
 }
 
 // Whether a page is out, and the count.
-fn say_talk(rt: &impl Print, out: bool, count: u32) {
+fn say_talk(rt: &impl Print, out: bool, count: u32) -> io::Result<()> {
     if out {
-        say(rt, ", page out");
+        say(rt, ", page out")?;
     } else {
-        say(rt, ", no page out");
+        say(rt, ", no page out")?;
     }
-    say_with(rt, ", count ", count as u64);
+    say_with(rt, ", count ", count as u64)
 }
 
-fn say_reader(rt: &impl Print, reader: Reader) {
+fn say_reader(rt: &impl Print, reader: Reader) -> io::Result<()> {
     match reader {
         Reader::Fresh => say(rt, ", reader fresh"),
         Reader::Open { at, last, bits } => {
-            say_with(rt, ", reader open at ", at as u64);
-            say_with(rt, " since ", last as u64);
+            say_with(rt, ", reader open at ", at as u64)?;
+            say_with(rt, " since ", last as u64)
         }
         Reader::Dropping { last } => say_with(rt, ", reader dropping since ", last as u64),
     }
 }
 
 // What is left of the link.
-fn say_link(rt: &impl Print, link: Link) {
+fn say_link(rt: &impl Print, link: Link) -> io::Result<()> {
     let talk = link.talk;
     let next = link.next;
-    say_pages(rt, talk.own, talk.held, next.own);
-    say_talk(rt, talk.out, talk.count);
+    say_pages(rt, talk.own, talk.held, next.own)?;
+    say_talk(rt, talk.out, talk.count)?;
     let reader = link.reader;
-    say_reader(rt, reader);
+    say_reader(rt, reader)
 }
 
 // What is left of the record.
-fn say_device(rt: &impl Print, device: Device) {
+fn say_device(rt: &impl Print, device: Device) -> io::Result<()> {
     let state = device.state;
-    say_state(rt, state);
+    say_state(rt, state)?;
     let link = device.link;
-    say_link(rt, link);
+    say_link(rt, link)
 }
 
 // Gives the record the event, and tells what comes of it behind the words for both.
-pub(crate) fn tell(rt: &impl Print, device: Device, event: Event) {
+pub(crate) fn tell(rt: &impl Print, device: Device, event: Event) -> io::Result<()> {
     let reply = step(device, event);
     let answer = reply.answer;
-    say_answer(rt, answer);
+    say_answer(rt, answer)?;
     let after = reply.device;
-    say_device(rt, after);
-    say(rt, "\n");
+    say_device(rt, after)?;
+    say(rt, "\n")
 }
