@@ -40,9 +40,9 @@ opens_at mode reader (x ∷ rest) at =
     else opens_at mode after rest (at + 1)
 
 -- An edge of an attempt: the attempt goes on, or it has ended, and `next` is where the next one opens, or the length.
-abbrev pub ends_at : Heard → (goes_on_law : ReadOutcome) (next : ℕ) → ReadOutcome
-ends_at Nothing goes_on_law next = goes_on_law
-ends_at (Ended ending) goes_on_law next = Attempt ending next
+abbrev pub ends_at : Heard → (goes_on : ReadOutcome) (next : ℕ) → ReadOutcome
+ends_at Nothing goes_on next = goes_on
+ends_at (Ended ending) goes_on next = Attempt ending next
 
 -- "the first attempt's outcome, the end of the capture counting as quiet": how it ends at the first edge that ends it; at the end of the
 -- list, Cut. The next attempt opens at the edge that ends this one, as "that edge opens the next" after Cut, or at a later one, or none does. (The read call
