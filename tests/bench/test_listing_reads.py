@@ -104,12 +104,14 @@ def test_an_output_that_is_closed_is_said(given):
 
 @WRITING
 def test_a_pipe_whose_reader_has_gone_ends_the_program_by_its_signal_without_a_word(opened, given):
-    """As where `head` has seen enough: a person who is gone need not be told."""
+    """As where `head` has seen enough: a person who is gone need not be told. It ends as a shell shows of the signal, whether that has ended it or
+    not: a program that Rattle starts ignores it."""
     reader, writer = os.pipe()
     opened.append(writer)
     os.close(reader)
-    ended = subprocess.run([PROGRAM], input=given, stdout=writer, stderr=subprocess.PIPE, timeout=SECONDS)
-    assert (ended.returncode, ended.stderr) == (-signal.SIGPIPE, b'')
+    words = ['bash', '-c', '"$1"; exit $?', 'bash', PROGRAM]
+    ended = subprocess.run(words, input=given, stdout=writer, stderr=subprocess.PIPE, timeout=SECONDS)
+    assert (ended.returncode, ended.stderr) == (128 + signal.SIGPIPE, b'')
 
 
 def test_where_neither_output_can_be_written_the_program_ends_well():
