@@ -111,7 +111,7 @@ pub(crate) fn parity_take(
 }
 
 // How many parity symbols an answer tells of.
-fn symbols_told(answer: Answer) -> usize
+fn symbols_told(answer: &Answer) -> usize
     ensures { result ≤ 44 }
 {
     match answer {
@@ -142,7 +142,7 @@ fn finish_on(
 {
     take_symbols(cells, from, STATE_ENTRIES, state);
     let answer = frame_parity::finish(state, parity);
-    let count = symbols_told(answer);
+    let count = symbols_told(&answer);
     answers[told] = 1 + (count as u64);
     answers[told + 1] = answer.packed();
     tell_symbols(answers, told + 2, parity, count)

@@ -12,6 +12,7 @@ mod frames;
 mod message_runs;
 mod runs;
 
+use std::io;
 use std::io::Read;
 
 // Room for the input.
@@ -51,22 +52,28 @@ fn take_input(source: &mut impl Read, room: &mut [u8]) -> usize
     count
 }
 
-// Reads the calls, answers them, writes the answers. If they cannot be written, nothing is left to do.
-fn serve(rt: &(impl Input + Print), input: &mut [u8], output: &mut [u8], list: &mut [u32])
+// Reads the calls, answers them, writes the answers.
+fn serve(
+    rt: &impl Print,
+    source: &mut impl Read,
+    input: &mut [u8],
+    output: &mut [u8],
+    list: &mut [u32],
+) -> io::Result<()>
     requires { (524288 ≡ length input.old) × (1572864 ≡ length output.old) × (65536 ≡ length list.old) }
 {
-    let got = take_input(&mut rt.reader(), input);
+    let got = take_input(source, input);
     let mut cells = [0u64; 65536];
     cells::from_bytes(input, &mut cells);
     let mut answers = [0u64; 196608];
     let told = calls::answer_all(&cells, got / 8, &mut answers, list);
     cells::to_bytes(&answers, told, output);
-    let _ = rt.write_all(&output[..told * 8]);
+    rt.write_all(&output[..told * 8])
 }
 
-fn main(rt: HostRuntime) {
+fn main(rt: HostRuntime) -> io::Result<()> {
     let mut input = input_space();
     let mut output = output_space();
     let mut list = entry_space();
-    serve(&rt, &mut input, &mut output, &mut list);
+    serve(&rt, &mut rt.stdin(), &mut input, &mut output, &mut list)
 }

@@ -18,7 +18,7 @@ fn in_bounds(number: u64, pages: usize) -> usize
 }
 
 // The number of messages that an answer tells.
-fn messages_told(answer: Answer, pages: usize) -> usize
+fn messages_told(answer: &Answer, pages: usize) -> usize
     ensures { (result ≤ 64) × (result ≤ pages) }
 {
     match answer {
@@ -28,7 +28,7 @@ fn messages_told(answer: Answer, pages: usize) -> usize
         Answer::Order(word) => 0,
         Answer::Settled { ability, master } => 0,
         Answer::Value(value) => 0,
-        Answer::Number(number) => in_bounds(number, pages),
+        Answer::Number(number) => in_bounds(*number, pages),
         Answer::Quiet => 0,
         Answer::Unfit => 0,
     }
@@ -74,7 +74,7 @@ fn messages_on(
     let count = looked_at(size);
     take_cells(cells, from, count, pages);
     let answer = page_messages::messages(&pages[..count], found);
-    let told_cells = 3 * messages_told(answer, count);
+    let told_cells = 3 * messages_told(&answer, count);
     answers[told] = 1 + (told_cells as u64);
     answers[told + 1] = answer.packed();
     tell_cells(answers, told + 2, found, told_cells)
