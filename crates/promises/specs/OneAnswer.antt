@@ -31,12 +31,12 @@ abbrev pub resolved_is_byte : Resolution → Bool
 resolved_is_byte (resolution.Refused refusal) = true
 resolved_is_byte (resolution.Settled ability master) = is_byte ability
 
--- A contract `r ≡ ..` has at most one result. This is true of every type, since both are the same as what the definition has.
+-- A contract `result ≡ ..` has at most one result. This is true of every type, since both are the same as what the definition has.
 abbrev pub Single : (A : Type 0) → Type 0
 Single A = (first second due : A) → first ≡ due → second ≡ due → first ≡ second
 
--- Of a result the contracts of public functions have three forms, `r ≡ ..`, `said r ≡ ..` and `Meets r ..`, and of lent memory two, `now x.exit ≡ ..`, x a lent list,
--- number, device or record, and, of a record of numbers that an event has changed, `device_of (now x.exit) ≡ ..`; `tools/contract-forms` checks that there is no other.
+-- Of a result the contracts of public functions have three forms, `result ≡ ..`, `said result ≡ ..` and `Meets result ..`, and of lent memory two, `x.new ≡ ..`, x a lent list,
+-- number, device or record, and, of a record of numbers that an event has changed, `device_of x.new ≡ ..`; `tools/contract-forms` checks that there is no other.
 pub record NoSecondAnswer : Type 0 where
   -- What a contract says outright: a number, yes or no, a lent list afterwards; a mode, and whether a number names one; what a gap is; what an edge brings to a
   -- reader; what reading a capture brings; what resolving comes to; a device.
