@@ -28,6 +28,9 @@ ERROR = re.compile(r'^(?:\./)?proofs/(\S+?)(?:/(?:Answers|Invariants|Proof))?\.a
 # A goal that the prover has to show itself: the note on it, the line on its function, and then what it is.
 UNPROVED = re.compile(r'^note: (src/\S+: it is not proved that .* \(`([^`]+)`\).*)$')
 UNANSWERED = re.compile(r'^fn \S+: no proof: expected answers in (?:\./)?proofs/(\S+)/Answers\.antt; `search` did not prove (.*?)(?:; it calls .*)?$')
+# A function that is not proved, behind the notes on its goals, where others of them have answers; and a folder of functions that call one another.
+FUNCTION = re.compile(r'^fn \w+::(\S+?): (?:not proved|no proof)')
+CYCLE = re.compile(r'\bproofs/(\S*?)\+(\S+?)/(?:Answers|Invariants)\.antt')
 GOAL = re.compile(r'^note: (`([^`]+)` of (?:\./)?proofs/(\S+)/Answers\.antt must prove: .*)$')
 
 
@@ -88,6 +91,14 @@ def faults_of(wrongs):
             yield f'{wrong.title()}: a replacement has more than one line: {wrong.astray[0].strip()}'
 
 
+def folder_of(function, log):
+    """The folder of a function's proof, by its path in the code; of one that calls another and is called by it, the folder of both."""
+    *above, name = function.split('::')
+    folder = ''.join(f'{part}/' for part in above)
+    together = (members for at, members in CYCLE.findall(log) if at == folder and f'_{name}_' in f'_{members}_')
+    return folder + next((f'+{members}' for members in together), name)
+
+
 def refusals(log):
     """Each place at which a log has a refusal that stands at a fact, with the refusal's first line."""
     lines, found, pending = log.split('\n'), {}, {}
@@ -105,6 +116,11 @@ def refusals(log):
                 found.setdefault(f'{unanswered[1]} {name[1:-1]}', pending.get(name[1:-1], line))
         if goal and f'{goal[3]} {goal[2]}' in found:
             found[f'{goal[3]} {goal[2]}'] = goal[1]
+        function = FUNCTION.match(line)
+        if function and pending:
+            folder = folder_of(function[1], log)
+            for name, words in pending.items():
+                found.setdefault(f'{folder} {name}', words)
         if line.startswith('fn '):
             pending = {}
     return found
