@@ -2,9 +2,7 @@
 ghost use Rattle.std.specs.Prelude.{◌≡◌, true, [], ◌∷◌, ◌++◌};
 ghost use Rattle.frame_polynomial.specs.Frame.{all_symbols};
 ghost use Rattle.frame_parity.specs.Taking.{register_of, register_after};
-ghost use Rattle.frame_parity.specs.Working.{Ready, Going};
-
-use crate::rows::table;
+ghost use Rattle.frame_parity.specs.Working.{Ready, Going, rows_of};
 
 // The register after one more symbol.
 fn push(register: [u16; 45], symbol: u16, rows: &[[u16; 44]; 24]) -> [u16; 45]
@@ -24,12 +22,12 @@ fn push(register: [u16; 45], symbol: u16, rows: &[[u16; 44]; 24]) -> [u16; 45]
     out
 }
 
-// The register after a burst of symbols.
-pub(crate) fn push_all(register: [u16; 45], burst: &[u16]) -> [u16; 45]
-    requires { (Ready register) × (all_symbols burst.now ≡ true) }
+// The register after a burst of symbols. It is given the table by value: as a local of its own the table would be filled with zeros first, by a
+// function of the C library, which this code is not to need.
+pub(crate) fn push_all(register: [u16; 45], burst: &[u16], rows: [[u16; 44]; 24]) -> [u16; 45]
+    requires { (Ready register) × (all_symbols burst.now ≡ true) × (rows ≡ rows_of) }
     ensures { result ≡ register_after (register_of register) burst.now ++ (0 ∷ []) }
 {
-    let rows = table();
     let mut pushed = register;
     let mut at: usize = 0;
     while at < burst.len() {

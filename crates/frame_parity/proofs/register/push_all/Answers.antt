@@ -6,7 +6,7 @@ pub loop-at-init : goal.loop-at-init
 loop-at-init c = none_pushed _ _ c.requires.0 c.requires.1
 
 pub push-next-requires : goal.push-next-requires
-push-next-requires c = going _ _ _ _ _ c.loop-at.invariant (omega arith) c.table-rows.ensures
+push-next-requires c = going _ _ _ _ _ c.loop-at.invariant (omega arith) c.requires.2
 
 pub loop-at-preserved : goal.loop-at-preserved
 loop-at-preserved c = one_pushed _ _ _ _ _ c.loop-at.invariant (omega arith) c.push-next.ensures
