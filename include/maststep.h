@@ -3,7 +3,7 @@
  * on) and C++ on x86-64 Linux.
  *
  * Link with libmaststep.a. It needs nothing at all beside it, not even the C library: it calls nothing outside
- * of itself, and has no data of its own that it writes. It has less than 23 KiB of code and constants.
+ * of itself, and has no data of its own that it writes. It has less than 22 KiB of code and constants.
  *
  * Every call answers with one 64-bit number: the top byte is the kind of the answer and the other 56
  * bits are its value. maststep_kind and maststep_value take an answer apart.

@@ -8,7 +8,6 @@ ghost use Rattle.frame_parity.specs.Working.{Fits};
 
 use crate::lists::{DATA_SYMBOLS, PARITY_SYMBOLS, STATE_ENTRIES, all_symbols, put_first};
 use crate::register::push_all;
-use crate::rows::table;
 use answers::{Answer, Refusal};
 
 // The number of symbols after a burst; for a burst that is longer than all data of a frame, one too many, whatever the count was: so the sum cannot pass the highest number of its type.
@@ -50,7 +49,7 @@ fn take_in(state: &mut [u16], burst: &[u16], count: usize)
     ensures { state.new ≡ put_at 0 (entries_after state.old burst.now) state.old }
 {
     let register = register_in(state);
-    let mut pushed = push_all(register, burst, table());
+    let mut pushed = push_all(register, burst);
     pushed[PARITY_SYMBOLS] = count as u16;
     put_first(state, &pushed, STATE_ENTRIES);
 }

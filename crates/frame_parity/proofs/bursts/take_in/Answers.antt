@@ -3,7 +3,7 @@ use Rattle.frame_parity.proofs.Answering.{loaded, stored}
 use Rattle.frame_parity.proofs.bursts.take_in.Goals as goal
 
 pub push_all-pushed-requires : goal.push_all-pushed-requires
-push_all-pushed-requires c = (loaded c.args.state.now _ c.requires.long c.requires.register c.register_in-register.ensures, c.requires.all, c.table.ensures)
+push_all-pushed-requires c = (loaded c.args.state.now _ c.requires.long c.requires.register c.register_in-register.ensures, c.requires.all)
 
 pub returns : goal.returns
 returns c =

@@ -1,6 +1,6 @@
 use Rattle.std.proofs.Common.{arith}
 use Rattle.frame_parity.proofs.RegisterLaws.{none_pushed, going, one_pushed}
-use Rattle.frame_parity.proofs.register.push_all.Goals as goal
+use Rattle.frame_parity.proofs.register.pushed_by.Goals as goal
 
 pub loop-at-init : goal.loop-at-init
 loop-at-init c = none_pushed _ _ c.requires.0 c.requires.1
