@@ -69,6 +69,7 @@ fn answer_all(events: &[u64], answers: &mut [u64])
 }
 
 // Takes events from a fresh device and answers each.
+#[tactic(auto, using(crate::proofs::RunLoop::too_few, crate::proofs::RunLoop::all_answered, crate::proofs::RunLoop::has_room))]
 pub fn run(events: &[u64], answers: &mut [u64]) -> Answer
     ensures says { said result ≡ (run_of events.now answers.old).says }
     ensures leaves { answers.new ≡ (run_of events.now answers.old).list }

@@ -6,7 +6,7 @@ use page_word::{Field, get, set};
 use port_state::{Link, is_base, own_in_round};
 
 // The nonce of the own page. Where the role is forced, T4 says which, and is not drawn.
-#[tactic(auto, unfolding(crate::specs::Ticks::nonce_for))]
+#[tactic(auto, using(crate::proofs::AloneT4::t4_alone), unfolding(crate::specs::Ticks::nonce_for))]
 fn nonce_for(advertised: u64, draw: u64) -> u64
     ensures { result ≡ nonce_for advertised draw }
 {
