@@ -208,12 +208,12 @@ base_later First h = absurd (false≢true h)
 base_later Later h = refl
 
 -- Good pages, by state.
-module _ (reading word : ℕ) (is_IsWord : word < 2 ^ 48) where
+module _ (reading word : ℕ) (is_word : word < 2 ^ 48) where
   refusing : {d : Device} (r : Refusal) → among (refused r).kind (kinds_for (Edge reading)) ≡ true → Sound d → Brings (kinds_for (Edge reading)) (due (refused r) d)
   refusing r listed s = answers (refused r) listed (omega arith) s
 
   taking : {d : Device} → Sound d → Brings (kinds_for (Edge reading)) (due (page_read word) d)
-  taking s = answers (page_read word) refl is_IsWord s
+  taking s = answers (page_read word) refl is_word s
 
   in_ability_law : (d : Device) → Sound (with_state state.Ability d) → Brings (kinds_for (Edge reading)) (page_in_ability word reading (with_state state.Ability d))
   unfolding page_in_ability base_page_in_ability next_page_in_ability
@@ -224,7 +224,7 @@ module _ (reading word : ℕ) (is_IsWord : word < 2 ^ 48) where
       either (is_base r)
       (λ base. either (has_other_selector word) (λ _. refusing refusal.Selector refl s)
       (λ selector. either (is_tie d.link.talk.own word) (λ _. refusing refusal.Tie refl broken)
-      (λ apart. taking (turns (record { own_page_law = own; word = is_IsWord; selector = selector; no_tie = apart }, base_later r base) s.comes s))))
+      (λ apart. taking (turns (record { own_page_law = own; word = is_word; selector = selector; no_tie = apart }, base_later r base) s.comes s))))
       (λ next. either (repeats_held word d.link) (λ _. taking (retalk s.talks s))
       (λ _. either (same_toggle word (held_in_round d.link)) (λ _. refusing refusal.Toggle refl broken)
       (λ _. taking (turns_later (held_before r d.link.talk.own d.link.talk.held next s.talks, refl) s.comes s))))

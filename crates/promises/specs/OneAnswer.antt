@@ -59,7 +59,7 @@ pub record NoSecondAnswer : Type 0 where
   pub reader : Single Reader
   pub refusal : Single Refusal
   -- Of a record that an event has changed only the device that it means is fixed, not its numbers: one that is not looked at may be any, and one may stand for another that means the
-  -- same (yes is any number but 0). 01: "exceptions are listed in docs/ and argued" (docs/DECISIONS.md, section Request 14); no answer tells such records apart (`LentDevice`, meaning-alone).
+  -- same (yes is any number but 0). 01: "exceptions are listed in docs/ and argued" (docs/DECISIONS.md, section Request 14); no answer tells such records apart (`LentDevice`, meaning_alone).
   pub meant : (first second : PlainRecord) (due : Device) → device_of first ≡ due → device_of second ≡ due → device_of first ≡ device_of second
   -- An answer of which a contract says what it says.
   pub answer : (first second : Answer) (due : Said) → ability_is_byte first ≡ true → ability_is_byte second ≡ true → said first ≡ due → said second ≡ due → first ≡ second

@@ -1,3 +1,4 @@
+-- No more is read than there is room for; what is left of the room falls.
 use Rattle.std.proofs.Common.{◌-◌, ◌≤◌, length}
 use Rattle.drive.proofs.take_input.Given as goal
 

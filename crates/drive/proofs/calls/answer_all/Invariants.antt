@@ -1,3 +1,4 @@
+-- So many cells are read, and at most three answer cells told for each; what is left of the cells falls.
 use Rattle.std.proofs.Common.{◌-◌, ◌≤◌, ◌*◌}
 use Rattle.drive.proofs.calls.answer_all.Given as goal
 

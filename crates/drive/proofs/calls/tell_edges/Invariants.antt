@@ -1,3 +1,4 @@
+-- What is left of the readings falls.
 use Rattle.std.proofs.Common.{◌-◌}
 use Rattle.drive.proofs.calls.tell_edges.Given as goal
 

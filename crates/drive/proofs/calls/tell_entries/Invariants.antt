@@ -1,3 +1,4 @@
+-- What is left of the entries falls.
 use Rattle.std.proofs.Common.{◌-◌}
 use Rattle.drive.proofs.calls.tell_entries.Given as goal
 

@@ -1,3 +1,4 @@
+-- What is left of the 65 536 cells falls.
 use Rattle.std.proofs.Common.{◌-◌}
 use Rattle.drive.proofs.cells.from_bytes.Given as goal
 

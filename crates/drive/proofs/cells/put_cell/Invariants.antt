@@ -1,3 +1,4 @@
+-- What is left of the eight bytes falls.
 use Rattle.std.proofs.Common.{◌-◌}
 use Rattle.drive.proofs.cells.put_cell.Given as goal
 

@@ -1,3 +1,4 @@
+-- What is left of the symbols falls.
 use Rattle.std.proofs.Common.{◌-◌}
 use Rattle.drive.proofs.frames.take_symbols.Given as goal
 

@@ -1,3 +1,4 @@
+-- What is left of the symbols falls.
 use Rattle.std.proofs.Common.{◌-◌}
 use Rattle.drive.proofs.frames.tell_symbols.Given as goal
 

@@ -1,3 +1,4 @@
+-- What is left of the cells falls.
 use Rattle.std.proofs.Common.{◌-◌}
 use Rattle.drive.proofs.runs.take_cells.Given as goal
 
