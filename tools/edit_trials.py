@@ -8,6 +8,7 @@ import shutil
 import subprocess
 import tempfile
 import threading
+import time
 from typing import NamedTuple
 
 # So many checks run side by side, of which each takes a processor or two and some GB.
@@ -93,8 +94,8 @@ class Room:
 
 
 def tried(root, trials):
-    """For each trial, by crate and label, what rt says of it, and what is wrong with that, or nothing. Several are tried side by side; those of a
-    crate begin one behind the other, so that a copy has done most of what the next one of it needs."""
+    """For each trial, by crate and label, what rt says of it, and what is wrong with that, or nothing. Several are tried side by side, and each is
+    named as it is done; a copy takes those of one crate one behind the other, since it has done most of what the next one needs."""
     found, rooms, lock = {}, [], threading.Lock()
     waiting = sorted(trials, key=lambda trial: trial.crate)
 
@@ -106,9 +107,11 @@ def tried(root, trials):
                 crates = [trial.crate for trial in waiting]
                 own = [place for place, crate in enumerate(crates) if crate in room.seeds]
                 trial = waiting.pop(own[0] if own else max(range(len(crates)), key=lambda place: crates.count(crates[place])))
+            began = time.monotonic()
             result = room.tried(trial)
             with lock:
                 found[trial.crate, trial.label] = result
+                print(f'{trial.crate}/{trial.label}: tried in {round(time.monotonic() - began)} s', flush=True)
 
     with tempfile.TemporaryDirectory(prefix='edits-') as folder:
         rooms = [Room(root, pathlib.Path(folder) / f'copy{number}') for number in range(min(SIDE_BY_SIDE, len(trials)))]
