@@ -1,6 +1,6 @@
 /*
  * Maststep: a device that negotiates on a line, the pages of that negotiation and the parity of frames, for C (from C99
- * on) and C++ on x86-64 Linux.
+ * on) and C++ on x86-64 Linux, level x86-64-v2.
  *
  * Link with libmaststep.a. It needs nothing at all beside it, not even the C library: it calls nothing outside
  * of itself, and has no data of its own that it writes. It has less than 22 KiB of code and constants.
