@@ -1,6 +1,6 @@
 -- What is said to the caller, for each case of an answer.
 -- 01, "Language forms in the code": "Whenever an answer is an enum, a definition gives this paper's number and values for each of the enum's cases. The promises use that definition."
-use Rattle.std.specs.Prelude.{ℕ, ◌+◌, ◌*◌, ◌%◌, ◌^◌, Bool, true, List, [], ◌∷◌, ◌++◌, length, take, drop, if◌then◌else◌}
+use Rattle.std.specs.Prelude.{ℕ, ◌+◌, ◌*◌, ◌%◌, ◌^◌, Bool, true, List, [], ◌∷◌, ◌++◌, length, take, drop, if◌then◌else◌, Result, Ok, Err}
 use Rattle.answers.specs.declared.Refusal.{Refusal}
 use Rattle.answers.specs.declared.Answer.{Answer}
 use Rattle.answers.specs.declared.Answer.TheVariants.{Nothing, Refused, Page, Order, Settled, Value, Number, Quiet, Unfit}
@@ -62,6 +62,11 @@ said (Value value) = register_value value
 said (Number n) = number n
 said Quiet = gap_quiet
 said Unfit = gap_unfit
+
+-- What a call says that gives a number or refuses.
+abbrev pub said_count : Result ℕ Refusal → Said
+said_count (Ok n) = number n
+said_count (Err refusal) = refused refusal
 
 -- The number of an ability is a byte, by its type in the code (`u8`): 256 and no master would be said as 0 and master are.
 abbrev pub is_byte : (ability : ℕ) → Bool

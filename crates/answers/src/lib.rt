@@ -3,7 +3,7 @@
 
 ghost use Rattle.std.specs.Prelude.{◌≡◌, ◌+◌, if◌then◌else◌};
 ghost use Rattle.answers.specs.Numbers.{number_of, refusal_of};
-ghost use Rattle.answers.specs.Answers.{said, packed, saying};
+ghost use Rattle.answers.specs.Answers.{said, said_count, packed, saying};
 
 // The refusals, in the order of their numbers: 01's table, then what requests have added.
 #[derive(Clone, Copy)]
@@ -44,12 +44,13 @@ pub enum Answer {
     Unfit,
 }
 
-impl Refusal {
-    // The refusal's number in 01's table, or the one that a request gave it.
-    pub fn number(self) -> u8
-        ensures { result ≡ number_of self }
+impl From<Refusal> for u8 {
+    // The refusal's number in 01's table, or the one that a request gave it. (Discriminants would say it too, but no two variants can have one number, as the wrong
+    // answers `tie_numbered_as_changed` and its like need it.)
+    fn from(refusal: Refusal) -> u8
+        ensures { result ≡ number_of refusal }
     {
-        match self {
+        match refusal {
             Refusal::Gap => 1,
             Refusal::Cut => 2,
             Refusal::Check => 3,
@@ -72,10 +73,12 @@ impl Refusal {
             Refusal::Length => 25,
         }
     }
+}
 
+impl From<u8> for Refusal {
     // The refusal that a number names; the first, if it names none.
     #[tactic(auto, unfolding(crate::specs::Numbers::refusal_of))]
-    pub fn numbered(number: u8) -> Self
+    fn from(number: u8) -> Refusal
         ensures { result ≡ refusal_of number }
     {
         match number {
@@ -131,7 +134,7 @@ impl Answer {
     {
         match self {
             Answer::Nothing => joined(0, 0),
-            Answer::Refused(refusal) => joined(refusal.number(), 0),
+            Answer::Refused(refusal) => joined(u8::from(refusal), 0),
             Answer::Page(word) => joined(128, word),
             Answer::Order(word) => joined(129, word),
             Answer::Settled { ability, master } => joined(130, rate_and_role(ability, master)),
@@ -139,6 +142,18 @@ impl Answer {
             Answer::Number(number) => joined(132, number),
             Answer::Quiet => joined(133, 0),
             Answer::Unfit => joined(134, 0),
+        }
+    }
+}
+
+impl From<Result<usize, Refusal>> for Answer {
+    // What a call that counts, or refuses, has come to.
+    fn from(counted: Result<usize, Refusal>) -> Answer
+        ensures { said result ≡ said_count counted }
+    {
+        match counted {
+            Ok(count) => Answer::Number(count as u64),
+            Err(refusal) => Answer::Refused(refusal),
         }
     }
 }
