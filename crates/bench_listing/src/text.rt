@@ -114,6 +114,6 @@ pub(crate) fn put_refusal(output: &mut [u8], refusal: Refusal) -> usize
     ensures { Puts output.old 0 (refused_line refusal) output.new result }
 {
     let named = put_bytes(output, 0, b"refused ");
-    let numbered = put_decimal(output, named, refusal.number() as usize);
+    let numbered = put_decimal(output, named, u8::from(refusal) as usize);
     put_bytes(output, numbered, b"\n")
 }

@@ -182,7 +182,7 @@ fn outcome_of(kind: u8, ability: u8, master: bool) -> Outcome
     if kind == 0 {
         return Outcome::NoneYet;
     }
-    Outcome::Resolved(Resolution::Refused(Refusal::numbered(kind)))
+    Outcome::Resolved(Resolution::Refused(Refusal::from(kind)))
 }
 
 fn outcome_numbers(outcome: Outcome) -> OutcomeNumbers
@@ -196,7 +196,7 @@ fn outcome_numbers(outcome: Outcome) -> OutcomeNumbers
         },
         Outcome::Resolved(resolution) => match resolution {
             Resolution::Refused(refusal) => OutcomeNumbers {
-                kind: refusal.number(),
+                kind: u8::from(refusal),
                 ability: 0,
                 is_master: 0,
             },
