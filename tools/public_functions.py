@@ -1,10 +1,14 @@
 """Reads the public functions out of Rattle code: what tools/no-requires, tools/contract-forms and tools/repository_names.py share.
 
-A function is public if it is `pub` without a restriction: `pub fn`, `pub extern "C" fn`, also in an impl block."""
+A function is public if it is `pub` without a restriction: `pub fn`, `pub extern "C" fn`, also in an impl block; and so is a method of a trait that a type implements, but for
+`fmt`, of which no contract can say what it prints. The owner of such a method has the name that Rattle gives the impl: `impl From<Refusal> for u8` is `U8FromRefusal`."""
 import collections
 import re
 
 PUBLIC = re.compile(r'\bpub\s+(?:const\s+)?(?:unsafe\s+)?(?:extern\s+"[^"]*"\s+)?fn\s+(\w+)')
+METHOD = re.compile(r'\bfn\s+(?!fmt\b)(\w+)')
+# An impl of a type's own, or of a trait for a type.
+IMPL = re.compile(r'^impl(?:<[^{]*?>)? (?:([^{]*?) for )?([^{]*?) \{', re.M)
 CLAUSE = re.compile(r'\b(requires|ensures|ghost|decreases)\b|[{;]')
 
 # owner is the type whose method it is, or ''; has_result tells whether it gives one; clauses are the words of its contract, in order, and statements what stands between the
@@ -48,11 +52,21 @@ def has_result(text, place):
     return text[closing(text, place, '()'):].lstrip().startswith('->')
 
 
+def impl_name(trait, type_name):
+    """The name that Rattle gives an impl of a trait for a type: the type's words, then the trait's, each with a capital."""
+    return ''.join(word[0].upper() + word[1:] for word in re.findall(r'\w+', f'{type_name} {trait}'))
+
+
 def functions(source):
-    """The public functions of a file."""
+    """The public functions of a file, in order."""
     text = without_comments(source)
-    impls = [(found.start(), closing(text, found.end()), found[1]) for found in re.finditer(r'^impl (\w+)', text, re.M)]
-    for found in PUBLIC.finditer(text):
+    impls, found_at = [], list(PUBLIC.finditer(text))
+    for found in IMPL.finditer(text):
+        start, end = found.start(), closing(text, found.end() - 1)
+        impls.append((start, end, impl_name(found[1], found[2]) if found[1] else re.match(r'\w*', found[2])[0]))
+        if found[1]:
+            found_at += METHOD.finditer(text, found.end(), end)
+    for found in sorted(found_at, key=lambda each: each.start()):
         owners = [name for start, end, name in impls if start < found.start() < end]
         line = text.count('\n', 0, found.start()) + 1
         contract = list(clauses(text, found.end()))
@@ -60,8 +74,8 @@ def functions(source):
 
 
 def exported(sources):
-    """What a crate makes public, from its files by name: the functions of lib itself, those that lib passes on, and the methods of such
-    types. Each name with its file and line."""
+    """What a crate makes public, from its files by name: the functions of lib itself, those that lib passes on, the methods of such
+    types, and what traits ask of types that are not the crate's own alone. Each name with its file and line."""
     if 'lib' not in sources:
         return {}
     lib = without_comments(sources['lib'])
@@ -73,6 +87,10 @@ def exported(sources):
     for file, single, several in passed_on:
         shown |= {(file, name.strip()) for name in (single or several).split(',') if name.strip()}
     types = {name for file, name in shown}
+    hidden = {name for source in sources.values() for name in re.findall(r'^(?:pub\(crate\) )?(?:struct|enum) (\w+)', source, re.M)}
+    for source in sources.values():
+        impls = [each for each in IMPL.finditer(without_comments(source)) if each[1]]
+        types |= {impl_name(each[1], each[2]) for each in impls if not hidden & set(re.findall(r'\w+', each[1] + ' ' + each[2]))}
     found = {}
     for file, source in sources.items():
         for function in functions(source):

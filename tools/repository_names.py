@@ -111,9 +111,11 @@ CRATE = {
     'lib': 'mod a;\npub use a::shown;\npub use a::{Kind, Other};\n// pub fn no() {}\n'
            'pub extern "C" fn own(x: u8) -> u8 { x }\npub(crate) fn not() {}\n',
     'a': 'pub fn shown() {}\npub fn unshown() {}\npub struct Kind {}\n'
-         'impl Kind {\n    pub fn made() -> Self { Kind {} }\n    fn inner() {}\n}\nimpl Hidden {\n    pub fn unseen() {}\n}\n',
+         'impl Kind {\n    pub fn made() -> Self { Kind {} }\n    fn inner() {}\n}\nimpl Hidden {\n    pub fn unseen() {}\n}\n'
+         'struct Hidden {}\nimpl From<Result<Kind, u8>> for u64 {\n    fn from(x: Result<Kind, u8>) -> u64 { 0 }\n}\n'
+         'impl From<Kind> for Hidden {\n    fn from(x: Kind) -> Hidden { Hidden {} }\n}\nimpl Display for Kind {\n    fn fmt(&self) {}\n}\n',
 }
-EXPORTED = {'shown': ('a', 1), 'own': ('lib', 5), 'Kind::made': ('a', 5)}
+EXPORTED = {'shown': ('a', 1), 'own': ('lib', 5), 'Kind::made': ('a', 5), 'U64FromResultKindU8::from': ('a', 13)}
 
 
 def tells_its_samples():
