@@ -1,54 +1,35 @@
-// Cells of 64 bits and their bytes, low byte first.
-ghost use Rattle.std.specs.Prelude.{◌+◌, ◌≤◌, ◌<◌, length};
+// Cells of 64 bits: their bytes, low byte first, and what a cell means as a narrower number.
+use std::alloc::{AllocError, Global};
 
-fn wide(byte: u8) -> u64
-    ensures { result < 256 }
-{
-    byte as u64
+// The cells of all bytes. Bytes past the last whole cell are not looked at.
+pub(crate) fn from_bytes(alloc: Global, bytes: &[u8]) -> Result<Vec<u64>, AllocError> {
+    let (cells, _) = bytes.as_chunks::<8>();
+    cells
+        .iter()
+        .map(|cell| u64::from_le_bytes(*cell))
+        .collect(alloc)
 }
 
-// Four bytes from a place on, as a number.
-fn half_at(bytes: &[u8], at: usize) -> u64
-    requires { at + 4 ≤ length bytes.now }
-    ensures { result < 4294967296 }
-{
-    let low = wide(bytes[at]) + 256 * wide(bytes[at + 1]);
-    let high = wide(bytes[at + 2]) + 256 * wide(bytes[at + 3]);
-    low + 65536 * high
-}
-
-// The cells of all bytes.
-pub(crate) fn from_bytes(bytes: &[u8], cells: &mut [u64; 65536])
-    requires { 524288 ≤ length bytes.now }
-{
-    let mut i: usize = 0;
-    while i < 65536 {
-        let at = i * 8;
-        cells[i] = half_at(bytes, at) + 4294967296 * half_at(bytes, at + 4);
-        i += 1;
+// The bytes of all cells.
+pub(crate) fn to_bytes(alloc: Global, cells: &[u64]) -> Result<Vec<u8>, AllocError> {
+    let mut bytes = Vec::new(alloc);
+    for cell in cells {
+        bytes.extend_from_slice(&cell.to_le_bytes())?;
     }
+    Ok(bytes)
 }
 
-// A cell's eight bytes from a place on.
-fn put_cell(bytes: &mut [u8], at: usize, cell: u64)
-    requires { at + 8 ≤ length bytes.old }
-{
-    let mut rest = cell;
-    let mut i: usize = 0;
-    while i < 8 {
-        bytes[at + i] = (rest % 256) as u8;
-        rest = rest / 256;
-        i += 1;
-    }
+// A mode: every number from 2 on is a wrong one, of whatever size.
+pub(crate) fn mode_of(cell: u64) -> u32 {
+    u32::try_from(cell).unwrap_or(u32::MAX)
 }
 
-// The bytes of the first cells.
-pub(crate) fn to_bytes(cells: &[u64; 196608], count: usize, bytes: &mut [u8])
-    requires { (count ≤ 196608) × (1572864 ≤ length bytes.old) }
-{
-    let mut i: usize = 0;
-    while i < count {
-        put_cell(bytes, i * 8, cells[i]);
-        i += 1;
-    }
+// A clock reading, a gap or an entry of a list: taken modulo 2^32.
+pub(crate) fn reading_of(cell: u64) -> u32 {
+    (cell % 4294967296) as u32
+}
+
+// An entry of a state or a burst: above 65 535 it counts as 65 535.
+pub(crate) fn symbol_of(cell: u64) -> u16 {
+    u16::try_from(cell).unwrap_or(u16::MAX)
 }

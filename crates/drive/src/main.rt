@@ -1,79 +1,34 @@
 // The calls for a program in any language, through a pipe: a row of calls on standard input, their answers on standard output.
 // Every number is a cell of 64 bits, low byte first. A call is an operation, the number n of its arguments, and n arguments; its
-// answer is the number of answer cells, and these. Input past 65 536 cells is not read. A message run has the longest answers: three cells for
-// each page of the call, if all are message pages. So there is room for three times as many answer cells as cells of calls.
+// answer is the number of answer cells, and these. Input past 65 536 cells is not read.
 #![tactic(auto)]
-
-ghost use Rattle.std.specs.Prelude.{◌≡◌, ◌≤◌, length};
 
 mod calls;
 mod cells;
-mod frames;
-mod message_runs;
-mod runs;
+mod lists;
 
+use std::alloc::Global;
 use std::io;
-use std::io::Read;
+use std::io::{ErrorKind, Read};
 
-// Room for the input.
-fn input_space() -> [u8; 524288]
-    ensures { 524288 ≡ length result }
-{
-    [0; 524288]
-}
+// The bytes of 65 536 cells.
+const MOST_BYTES: u64 = 524288;
 
-// Room for the answers as bytes.
-fn output_space() -> [u8; 1572864]
-    ensures { 1572864 ≡ length result }
-{
-    [0; 1572864]
-}
-
-// Room for the entries of a list.
-fn entry_space() -> [u32; 65536]
-    ensures { 65536 ≡ length result }
-{
-    [0; 65536]
-}
-
-// Reads until the room is full, the input ends or a read fails; how many bytes now stand at the head of the room. What came before a failure
-// is answered like what comes before an end.
-fn take_input(source: &mut impl Read, room: &mut [u8]) -> usize
-    ensures { result ≤ length room.new }
-{
-    let mut count = 0;
-    while count < room.len() {
-        match source.read(&mut room[count..]) {
-            Ok(0) => return count,
-            Ok(more) => count += more,
-            Err(_) => return count,
-        }
+// Reads until all bytes are there that are read at most, the input ends or a read fails. What came before a failure is answered like what
+// comes before an end.
+fn take_input(alloc: Global, source: impl Read + Drop) -> io::Result<Vec<u8>> {
+    let mut input = Vec::new(alloc);
+    match source.take(MOST_BYTES).read_to_end(&mut input) {
+        Err(error) if error.kind() == ErrorKind::OutOfMemory => Err(error),
+        _ => Ok(input),
     }
-    count
 }
 
 // Reads the calls, answers them, writes the answers.
-fn serve(
-    rt: &impl Print,
-    source: &mut impl Read,
-    input: &mut [u8],
-    output: &mut [u8],
-    list: &mut [u32],
-) -> io::Result<()>
-    requires { (524288 ≡ length input.old) × (1572864 ≡ length output.old) × (65536 ≡ length list.old) }
-{
-    let got = take_input(source, input);
-    let mut cells = [0u64; 65536];
-    cells::from_bytes(input, &mut cells);
-    let mut answers = [0u64; 196608];
-    let told = calls::answer_all(&cells, got / 8, &mut answers, list);
-    cells::to_bytes(&answers, told, output);
-    rt.write_all(&output[..told * 8])
-}
-
 fn main(rt: HostRuntime) -> io::Result<()> {
-    let mut input = input_space();
-    let mut output = output_space();
-    let mut list = entry_space();
-    serve(&rt, &mut rt.stdin(), &mut input, &mut output, &mut list)
+    let input = take_input(rt.alloc(), rt.stdin())?;
+    let cells = cells::from_bytes(rt.alloc(), &input)?;
+    let answers = calls::answer_all(rt.alloc(), &cells)?;
+    let output = cells::to_bytes(rt.alloc(), &answers)?;
+    rt.write_all(&output)
 }

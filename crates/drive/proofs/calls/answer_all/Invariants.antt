@@ -1,9 +1,6 @@
--- So many cells are read, and at most three answer cells told for each; what is left of the cells falls.
-use Rattle.std.proofs.Common.{◌-◌, ◌≤◌, ◌*◌}
+-- The cells that are left get fewer with each call.
+use Rattle.std.proofs.Common.{length}
 use Rattle.drive.proofs.calls.answer_all.Given as goal
 
-abbrev pub invariant-loop-at : goal.invariant-loop-at
-invariant-loop-at l = (l.at ≤ l.count) × (l.told ≤ 3 * l.at)
-
-abbrev pub decreases-loop-at : goal.decreases-loop-at
-decreases-loop-at l = l.count - l.at
+abbrev pub decreases-loop-calls : goal.decreases-loop-calls
+decreases-loop-calls l = length l.calls
