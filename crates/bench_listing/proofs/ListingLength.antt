@@ -1,20 +1,22 @@
 -- No listing is longer than 184 040 bytes.
-use mathlib.Core.Path.{◌≡◌, refl, sym, ap₂, ◌∙◌}
+use mathlib.Core.Path.{◌≡◌, refl, ap, ◌∙◌}
 use mathlib.Core.List.{List, [], ◌∷◌, ◌++◌}
-use Prim.Native.Nat.{ℕ, zero, suc, ◌+◌, ◌*◌, ◌%◌, ◌≤◌}
+use Prim.Native.Nat.{ℕ, zero, suc, ◌+◌, ◌*◌, ◌≤◌}
 use native.Mathlib.Omega.{arith}
 use borrow.Author.Tests.{le-leb}
 use lib.ListN.{length, take, drop, length-append, length-drop}
 use lib.Seq.{take-append_seam}
-use Rattle.answers.specs.Answers.{number, packed, put_at}
+use Rattle.answers.specs.Answers.{Said, number, said_count}
+use Rattle.answers.specs.declared.Refusal.{Refusal}
+use Rattle.answers.specs.declared.Answer.TheVariants.{Refused, Number}
+use Rattle.answers.proofs.OneAnswer.{one_answer}
 use Rattle.answers.proofs.PutAtStart.{put_at_start}
 use Rattle.line_reader.specs.declared.endings.Ending.{Ending}
 use Rattle.line_captures.specs.declared.captures.ReadOutcome.{ReadOutcome}
 use Rattle.line_captures.specs.declared.captures.ReadOutcome.TheVariants.{UnknownMode, PastTheEnd, AtTheEnd, Attempt}
 use Rattle.line_captures.specs.Captures.{read_of, onwards, attempts_from, attempts}
-use Rattle.bench_listing.specs.declared.input.Given.{Given}
-use Rattle.bench_listing.specs.declared.input.Given.TheVariants.{Refused, Capture}
-use Rattle.bench_listing.specs.Listing.{given, readings_of, attempt_line, attempt_lines, good_ones, bad_ones, first_line, last_line, capture_listing, listing_by, listing}
+use Rattle.std.specs.Prelude.{Result, Ok, Err}
+use Rattle.bench_listing.specs.Listing.{Given, given, readings_of, attempt_line, attempt_lines, good_ones, bad_ones, first_line, last_line, capture_listing, listing_by, listing}
 use Rattle.bench_listing.specs.Calls.{listed}
 use Rattle.bench_listing.proofs.LineLaws.{attempt_short, first_short, last_short, refused_short}
 use Rattle.bench_listing.proofs.InputLaws.{captures}
@@ -67,29 +69,33 @@ unfolding listing
 listing_short input = by (given input) refl
   where
     by : (g : Given) → given input ≡ g → length (listing_by g (drop 1 input)) ≤ 184040
-    by (Refused refusal) e = let l = refused_short refusal in omega arith
-    by (Capture mode) e =
+    by (Err refusal) e = let l = refused_short refusal in omega arith
+    by (Ok mode) e =
         let s = (captures input mode e).short in
         let d = length-drop 1 input in
         let r = readings_few (drop 1 input) in
         let c = capture_short mode (readings_of (drop 1 input)) in omega arith
 
--- What a caller with room for every listing finds: the listing at the head of the output, its length in the low 56 bits of the answer.
-pub record Answered (input out : List ℕ) (count : ℕ) : Type 0 where
-  pub few : count ≤ 184040
-  pub text : take count out ≡ listing input
+-- What a caller with room for every listing finds: its length is answered, and it stands at the head of the output.
+pub record Answered (input out : List ℕ) (counted : Result ℕ Refusal) : Type 0 where
+  pub told : counted ≡ Ok (length (listing input))
+  pub fits : length (listing input) ≤ length out
+  pub text : take (length (listing input)) out ≡ listing input
 
-pub answered : (input readings output out : List ℕ) (answer : ℕ) → 8000 ≤ length readings → 184040 ≤ length output
-    → answer ≡ packed (listed input readings output).says → out ≡ (listed input readings output).output
-    → Answered input out (answer % 72057594037927936)
+pub answered : (input readings output out : List ℕ) (counted : Result ℕ Refusal) → 8000 ≤ length readings → 184040 ≤ length output
+    → said_count counted ≡ (listed input readings output).says → out ≡ (listed input readings output).output
+    → Answered input out counted
 unfolding listed
-answered input readings output out answer a b e o =
-    record { few = let l = listing_short input in let c = count in omega arith; text = ap₂ take (sym count) (left ∙ put_at_start (listing input) output) ∙ take-append_seam (listing input) (drop (length (listing input)) output) }
+answered input readings output out counted a b e o =
+    record {
+      told = by counted (rw (le-leb 8000 (length readings) a, le-leb 184040 (length output) b) at e);
+      fits = let l = ap length at_head ∙ length-append (listing input) (drop (length (listing input)) output) in omega arith;
+      text = ap (take (length (listing input))) at_head ∙ take-append_seam (listing input) (drop (length (listing input)) output);
+    }
   where
-    count : length (listing input) ≡ answer % 72057594037927936
-    count =
-        let l = listing_short input in
-        let s : answer ≡ packed (number (length (listing input))) = rw (le-leb 8000 (length readings) a, le-leb 184040 (length output) b) at e in omega arith
+    at_head : out ≡ listing input ++ drop (length (listing input)) output
+    at_head = rw (le-leb 8000 (length readings) a, le-leb 184040 (length output) b) at o ∙ put_at_start (listing input) output
 
-    left : out ≡ put_at 0 (listing input) output
-    left = rw (le-leb 8000 (length readings) a, le-leb 184040 (length output) b) at o
+    by : (counted : Result ℕ Refusal) → said_count counted ≡ number (length (listing input)) → counted ≡ Ok (length (listing input))
+    by (Err refusal) s = let one : Refused refusal ≡ Number (length (listing input)) = one_answer _ _ refl refl s in cc
+    by (Ok count) s = ap (λ (told : Said). Ok told.value) s

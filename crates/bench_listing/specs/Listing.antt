@@ -1,5 +1,5 @@
 -- 01, "The bench listing".
-use Rattle.std.specs.Prelude.{ℕ, ◌+◌, ◌*◌, ◌%◌, Bool, true, false, List, [], ◌∷◌, ◌++◌, length, drop, if◌then◌else◌}
+use Rattle.std.specs.Prelude.{ℕ, ◌+◌, ◌*◌, ◌%◌, Bool, true, false, List, [], ◌∷◌, ◌++◌, Result, Ok, Err, length, drop, if◌then◌else◌}
 use Rattle.answers.specs.Choices.{◌<?◌, ◌=?◌}
 use Rattle.answers.specs.declared.Refusal.{Refusal}
 use Rattle.answers.specs.declared.Refusal.TheVariants.{Room, Mode, Odd}
@@ -8,21 +8,23 @@ use Rattle.line_mode.specs.Modes.{mode_of, by_mode}
 use Rattle.line_reader.specs.declared.endings.Ending.{Ending}
 use Rattle.line_reader.specs.declared.endings.Ending.TheVariants.{Good, Gap, Cut, Check}
 use Rattle.line_captures.specs.Captures.{attempts}
-use Rattle.bench_listing.specs.declared.input.Given.{Given}
-use Rattle.bench_listing.specs.declared.input.Given.TheVariants.{Refused, Capture}
 use Rattle.bench_listing.specs.Words.{text, decimal, hex_digits}
+
+-- What an input is: a capture in mode 0 or 1, or refused.
+abbrev pub Given : Type 0
+Given = Result ℕ Refusal
 
 -- In a mode that there is: "`refused 12` (over 32 001 bytes) or `refused 15` (the bytes after the first are no multiple of four), in that order."
 abbrev pub given_in : (mode : ℕ) (bytes : List ℕ) → Given
 given_in mode bytes =
-    if 32001 <? length (mode ∷ bytes) then Refused Room
-    else if length bytes % 4 =? 0 then Capture mode
-    else Refused Odd
+    if 32001 <? length (mode ∷ bytes) then Err Room
+    else if length bytes % 4 =? 0 then Ok mode
+    else Err Odd
 
 -- "Input: a mode byte, then readings of four bytes, low first, at most 8 000. Otherwise one line `refused 14` (mode missing or wrong)", before the others.
 unfoldable pub given : (input : List ℕ) → Given
-given [] = Refused Mode
-given (mode ∷ bytes) = by_mode (mode_of mode) (λ m. given_in mode bytes) (Refused Mode)
+given [] = Err Mode
+given (mode ∷ bytes) = by_mode (mode_of mode) (λ m. given_in mode bytes) (Err Mode)
 
 -- "four bytes, low first" as a number,
 abbrev pub reading : (a b c d : ℕ) → ℕ
@@ -93,13 +95,13 @@ refused_line refusal = text "refused " ++ decimal (number_of refusal) ++ text "\
 
 -- The listing by what is given, where these are the bytes behind the mode,
 abbrev pub listing_by : Given → (bytes : List ℕ) → List ℕ
-listing_by (Refused refusal) bytes = refused_line refusal
-listing_by (Capture mode) bytes = capture_listing mode (readings_of bytes)
+listing_by (Err refusal) bytes = refused_line refusal
+listing_by (Ok mode) bytes = capture_listing mode (readings_of bytes)
 
 -- and the readings that are listed.
 abbrev pub readings_by : Given → (bytes : List ℕ) → List ℕ
-readings_by (Refused refusal) bytes = []
-readings_by (Capture mode) bytes = readings_of bytes
+readings_by (Err refusal) bytes = []
+readings_by (Ok mode) bytes = readings_of bytes
 
 unfoldable pub listing : (input : List ℕ) → List ℕ
 listing input = listing_by (given input) (drop 1 input)

@@ -5,4 +5,4 @@ mod capture;
 mod input;
 mod text;
 
-pub use input::list;
+pub use input::{MOST_BYTES, MOST_READINGS, list};

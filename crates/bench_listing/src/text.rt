@@ -12,12 +12,9 @@ fn put_bytes(output: &mut [u8], at: usize, bytes: &[u8]) -> usize
     requires { at + length bytes.now ≤ length output.old }
     ensures { Puts output.old at bytes.now output.new result }
 {
-    let mut i: usize = 0;
-    while i < bytes.len() {
-        output[at + i] = bytes[i];
-        i += 1;
-    }
-    at + i
+    let behind = at + bytes.len();
+    output[at..behind].copy_from_slice(bytes);
+    behind
 }
 
 // A number in decimal.

@@ -1,10 +1,7 @@
--- After each reading, so many of them stand at the head of the list; what is left of them falls.
-use Rattle.std.proofs.Common.{◌-◌}
-use Rattle.bench_listing.proofs.ReadingLaws.{Decoding}
+-- After each reading, so many of them stand at the head of the list.
+use Rattle.bench_listing.specs.Listing.{readings_of}
+use Rattle.bench_listing.proofs.PlacingLaws.{Copying}
 use Rattle.bench_listing.proofs.input.decode.Given as goal
 
 abbrev pub invariant-loop-i : goal.invariant-loop-i
-invariant-loop-i l = Decoding l.input l.initial.readings l.readings l.count l.i
-
-abbrev pub decreases-loop-i : goal.decreases-loop-i
-decreases-loop-i l = l.count - l.i
+invariant-loop-i l = Copying l.initial.readings 0 (readings_of l.bytes) l.readings l.i

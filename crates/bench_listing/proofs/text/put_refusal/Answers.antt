@@ -7,4 +7,4 @@ use Rattle.bench_listing.proofs.text.put_refusal.Goals as goal
 pub returns : goal.returns
 unfolding refused_line
 returns c =
-    puts_then (puts_then c.put_bytes-named.ensures (puts_same c.put_decimal-numbered.ensures.text (ap decimal c.number.ensures))) c.put_bytes.ensures
+    puts_then (puts_then c.put_bytes-named.ensures (puts_same c.put_decimal-numbered.ensures.text (ap decimal c.from.ensures))) c.put_bytes.ensures
