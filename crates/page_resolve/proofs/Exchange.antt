@@ -9,27 +9,24 @@ use lib.Dec.{eqb, ltb}
 use borrow.Author.Tests.{eq-eqb, ne_eqb, eqb-true, eqb-false, ltb-true, ltb-false, lt-ltb, le-ltb}
 use Rattle.page_word.specs.Fields.{field_of, has_other_selector, is_tie}
 use Rattle.page_word.specs.declared.fields.Field.TheVariants.{Nonce}
-use Rattle.page_resolve.specs.declared.resolving.Resolution.{Resolution}
-use Rattle.page_resolve.specs.declared.resolving.Resolution.TheVariants.{Refused, Settled}
-use Rattle.answers.specs.declared.Refusal.TheVariants.{Wide, Selector, Tie}
-use Rattle.page_resolve.specs.declared.rates.Rate.{Rate}
-use Rattle.page_resolve.specs.declared.rates.Rate.TheVariants.{Ability, Missing}
+use Rattle.std.specs.Prelude.{Option, Some, None, Ok, Err}
+use Rattle.answers.specs.declared.Refusal.TheVariants as refusal
 use Rattle.page_resolve.specs.declared.roles.Role.{Role}
-use Rattle.page_resolve.specs.declared.roles.Role.TheVariants.{Master, Slave, Fault}
+use Rattle.page_resolve.specs.declared.roles.Role.TheVariants.{Master, Slave}
 use Rattle.page_resolve.specs.Rates.{has_ability, common_of, first_of}
 use Rattle.page_resolve.specs.Roles.{is_forced, has_t4, is_higher, master_if, both_forced, role_by, role_of}
 use Rattle.page_word.specs.Word.{is_wide}
-use Rattle.page_resolve.specs.Resolving.{settled_by, resolution_of}
+use Rattle.page_resolve.specs.Resolving.{Resolution, settled, settled_by, resolution_of}
 
 -- What the other end answers.
 abbrev pub opposite : Resolution → Resolution
-opposite (Refused refusal) = Refused refusal
-opposite (Settled ability master) = Settled ability (not master)
+opposite (Err refused) = Err refused
+opposite (Ok here) = settled here.ability (not here.master)
 
-abbrev pub other_role : Role → Role
-other_role Master = Slave
-other_role Slave = Master
-other_role Fault = Fault
+abbrev pub other_role : Option Role → Option Role
+other_role (Some Master) = Some Slave
+other_role (Some Slave) = Some Master
+other_role None = None
 
 same_common : (order : List ℕ) (own partner : ℕ) → common_of order partner own ≡ common_of order own partner
 same_common [] own partner = refl
@@ -51,11 +48,11 @@ one_higher a b h = by (ltb b a) refl
     by true e = let l = ltb-true b a e in le-ltb a b (omega arith)
     by false e = let l = ltb-false b a e in let n = eqb-false a b h in lt-ltb a b (omega arith)
 
-other_side : (t : Bool) → master_if (not t) ≡ other_role (master_if t)
+other_side : (t : Bool) → Some (master_if (not t)) ≡ other_role (Some (master_if t))
 other_side true = refl
 other_side false = refl
 
-other_side_back : (t : Bool) → master_if t ≡ other_role (master_if (not t))
+other_side_back : (t : Bool) → Some (master_if t) ≡ other_role (Some (master_if (not t)))
 other_side_back true = refl
 other_side_back false = refl
 
@@ -66,7 +63,7 @@ both_other false true = refl
 both_other false false = refl
 
 role_by_law : (f g : Bool) (own partner : ℕ) → is_tie own partner ≡ false → role_by g f partner own ≡ other_role (role_by f g own partner)
-role_by_law false false own partner h = ap master_if (one_higher (field_of Nonce own) (field_of Nonce partner) h) ∙ other_side (is_higher own partner)
+role_by_law false false own partner h = ap (λ (t : Bool). Some (master_if t)) (one_higher (field_of Nonce own) (field_of Nonce partner) h) ∙ other_side (is_higher own partner)
 role_by_law true false own partner h = other_side (has_t4 own)
 role_by_law false true own partner h = other_side_back (has_t4 partner)
 role_by_law true true own partner h = both_other (has_t4 own) (has_t4 partner)
@@ -76,15 +73,15 @@ pub role_exchanged : (own partner : ℕ) → is_tie own partner ≡ false → ro
 unfolding role_of
 role_exchanged own partner h = role_by_law (is_forced own) (is_forced partner) own partner h
 
-settled_other : (rate : Rate) (role : Role) → settled_by rate (other_role role) ≡ opposite (settled_by rate role)
-settled_other Missing role = refl
-settled_other (Ability n) Master = refl
-settled_other (Ability n) Slave = refl
-settled_other (Ability n) Fault = refl
+settled_other : (rate : Option ℕ) (role : Option Role) → settled_by rate (other_role role) ≡ opposite (settled_by rate role)
+settled_other None role = refl
+settled_other (Some n) (Some Master) = refl
+settled_other (Some n) (Some Slave) = refl
+settled_other (Some n) None = refl
 
 -- The first three refusals, and what follows them.
 abbrev guarded : Bool → Bool → Bool → Resolution → Resolution
-guarded wide other tie x = cond wide (Refused Wide) (cond other (Refused Selector) (cond tie (Refused Tie) x))
+guarded wide other tie x = cond wide (Err refusal.Wide) (cond other (Err refusal.Selector) (cond tie (Err refusal.Tie) x))
 
 guarded_other : (wide other tie : Bool) (x y : Resolution) → (tie ≡ false → y ≡ opposite x) → guarded wide other tie y ≡ opposite (guarded wide other tie x)
 guarded_other true other tie x y h = refl

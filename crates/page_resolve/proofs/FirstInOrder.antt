@@ -8,18 +8,15 @@ use native.Mathlib.Nat.{le_of_suc-le-suc, not-suc-le-zero}
 use native.Mathlib.Omega.{arith}
 use lib.ListN.{length, get_or}
 use Rattle.page_word.proofs.ComputedTest.{and_left, and_right}
-use Rattle.page_resolve.specs.declared.resolving.Resolution.{Resolution}
-use Rattle.page_resolve.specs.declared.resolving.Resolution.TheVariants.{Refused, Settled}
-use Rattle.answers.specs.declared.Refusal.TheVariants.{Wide, Selector, Tie, None}
-use Rattle.page_resolve.specs.declared.rates.Rate.{Rate}
-use Rattle.page_resolve.specs.declared.rates.Rate.TheVariants.{Ability, Missing}
+use Rattle.std.specs.Prelude.{Option, Some, None, Ok, Err}
+use Rattle.answers.specs.declared.Refusal.TheVariants as refusal
 use Rattle.page_resolve.specs.declared.roles.Role.{Role}
-use Rattle.page_resolve.specs.declared.roles.Role.TheVariants.{Master, Slave, Fault}
+use Rattle.page_resolve.specs.declared.roles.Role.TheVariants.{Master, Slave}
 use Rattle.page_resolve.specs.Rates.{has_ability, is_common, common_of, first_of}
 use Rattle.page_resolve.specs.Roles.{role_of}
 use Rattle.page_word.specs.Word.{is_wide}
 use Rattle.page_word.specs.Fields.{has_other_selector, is_tie}
-use Rattle.page_resolve.specs.Resolving.{settled_by, resolution_of}
+use Rattle.page_resolve.specs.Resolving.{Resolution, settled, settled_by, resolution_of}
 use Rattle.page_resolve.proofs.CommonAbilities.{first_yes, first_no}
 
 -- The ability stands at a place of the list, and is the first there that both words have.
@@ -62,15 +59,15 @@ later n rest own partner ability other f =
     before zero h = other
     before (suc k) h = f.none_before k (le_of_suc-le-suc h)
 
-pub first_common : (order : List ℕ) (own partner ability : ℕ) → first_of (common_of order own partner) ≡ Ability ability → FirstCommon order own partner ability
+pub first_common : (order : List ℕ) (own partner ability : ℕ) → first_of (common_of order own partner) ≡ Some ability → FirstCommon order own partner ability
 first_common [] own partner ability e = absurd (let z : ◌≡◌ {A = ℕ} 0 1 = cc e in omega arith)
 first_common (n ∷ rest) own partner ability e = by (first_common rest own partner ability) (is_common own partner n) refl
   where
-    by : (first_of (common_of rest own partner) ≡ Ability ability → FirstCommon rest own partner ability) → (t : Bool) → is_common own partner n ≡ t → FirstCommon (n ∷ rest) own partner ability
+    by : (first_of (common_of rest own partner) ≡ Some ability → FirstCommon rest own partner ability) → (t : Bool) → is_common own partner n ≡ t → FirstCommon (n ∷ rest) own partner ability
     by below true common = first_is n rest own partner ability common (cc (e, first_yes n rest own partner common))
     by below false other = later n rest own partner ability other (below (ap first_of (sym (first_no n rest own partner other)) ∙ e))
 
-pub none_common : (order : List ℕ) (own partner : ℕ) → first_of (common_of order own partner) ≡ Missing → NoneCommon order own partner
+pub none_common : (order : List ℕ) (own partner : ℕ) → first_of (common_of order own partner) ≡ None → NoneCommon order own partner
 none_common [] own partner e = λ k h. absurd (not-suc-le-zero h)
 none_common (n ∷ rest) own partner e = by (none_common rest own partner) (is_common own partner n) refl
   where
@@ -78,40 +75,44 @@ none_common (n ∷ rest) own partner e = by (none_common rest own partner) (is_c
     each other below zero h = other
     each other below (suc k) h = below k (le_of_suc-le-suc h)
 
-    by : (first_of (common_of rest own partner) ≡ Missing → NoneCommon rest own partner) → (t : Bool) → is_common own partner n ≡ t → NoneCommon (n ∷ rest) own partner
+    by : (first_of (common_of rest own partner) ≡ None → NoneCommon rest own partner) → (t : Bool) → is_common own partner n ≡ t → NoneCommon (n ∷ rest) own partner
     by below true common = absurd (let z : ◌≡◌ {A = ℕ} 0 1 = cc (e, first_yes n rest own partner common) in omega arith)
     by below false other = each other (below (ap first_of (sym (first_no n rest own partner other)) ∙ e))
 
 -- An answer that is none of the first three refusals comes from the rate and the role.
 settles : (wide other tie : Bool) (x : Resolution) (ability : ℕ) (master : Bool)
-    → cond wide (Refused Wide) (cond other (Refused Selector) (cond tie (Refused Tie) x)) ≡ Settled ability master → x ≡ Settled ability master
+    → cond wide (Err refusal.Wide) (cond other (Err refusal.Selector) (cond tie (Err refusal.Tie) x)) ≡ settled ability master → x ≡ settled ability master
 settles true other tie x ability master e = absurd (let z : ◌≡◌ {A = ℕ} 0 1 = cc e in omega arith)
 settles false true tie x ability master e = absurd (let z : ◌≡◌ {A = ℕ} 0 1 = cc e in omega arith)
 settles false false true x ability master e = absurd (let z : ◌≡◌ {A = ℕ} 0 1 = cc e in omega arith)
 settles false false false x ability master e = e
 
 lacks : (wide other tie : Bool) (x : Resolution)
-    → cond wide (Refused Wide) (cond other (Refused Selector) (cond tie (Refused Tie) x)) ≡ Refused None → x ≡ Refused None
+    → cond wide (Err refusal.Wide) (cond other (Err refusal.Selector) (cond tie (Err refusal.Tie) x)) ≡ Err refusal.None → x ≡ Err refusal.None
 lacks true other tie x e = absurd (let z : ◌≡◌ {A = ℕ} 0 1 = cc e in omega arith)
 lacks false true tie x e = absurd (let z : ◌≡◌ {A = ℕ} 0 1 = cc e in omega arith)
 lacks false false true x e = absurd (let z : ◌≡◌ {A = ℕ} 0 1 = cc e in omega arith)
 lacks false false false x e = e
 
-rate_settled : (rate : Rate) (role : Role) (ability : ℕ) (master : Bool) → settled_by rate role ≡ Settled ability master → rate ≡ Ability ability
-rate_settled Missing role ability master e = absurd (let z : ◌≡◌ {A = ℕ} 0 1 = cc e in omega arith)
-rate_settled (Ability n) Master ability master e = ap Ability (cc e)
-rate_settled (Ability n) Slave ability master e = ap Ability (cc e)
-rate_settled (Ability n) Fault ability master e = absurd (let z : ◌≡◌ {A = ℕ} 0 1 = cc e in omega arith)
+abbrev ability_in : Resolution → ℕ
+ability_in (Ok here) = here.ability
+ability_in (Err refused) = 0
 
-rate_missing : (rate : Rate) (role : Role) → settled_by rate role ≡ Refused None → rate ≡ Missing
-rate_missing Missing role e = refl
-rate_missing (Ability n) Master e = absurd (let z : ◌≡◌ {A = ℕ} 0 1 = cc e in omega arith)
-rate_missing (Ability n) Slave e = absurd (let z : ◌≡◌ {A = ℕ} 0 1 = cc e in omega arith)
-rate_missing (Ability n) Fault e = absurd (let z : ◌≡◌ {A = ℕ} 0 1 = cc e in omega arith)
+rate_settled : (rate : Option ℕ) (role : Option Role) (ability : ℕ) (master : Bool) → settled_by rate role ≡ settled ability master → rate ≡ Some ability
+rate_settled None role ability master e = absurd (let z : ◌≡◌ {A = ℕ} 0 1 = cc e in omega arith)
+rate_settled (Some n) (Some Master) ability master e = ap (λ (r : Resolution). Some (ability_in r)) e
+rate_settled (Some n) (Some Slave) ability master e = ap (λ (r : Resolution). Some (ability_in r)) e
+rate_settled (Some n) None ability master e = absurd (let z : ◌≡◌ {A = ℕ} 0 1 = cc e in omega arith)
+
+rate_missing : (rate : Option ℕ) (role : Option Role) → settled_by rate role ≡ Err refusal.None → rate ≡ None
+rate_missing None role e = refl
+rate_missing (Some n) (Some Master) e = absurd (let z : ◌≡◌ {A = ℕ} 0 1 = cc e in omega arith)
+rate_missing (Some n) (Some Slave) e = absurd (let z : ◌≡◌ {A = ℕ} 0 1 = cc e in omega arith)
+rate_missing (Some n) None e = absurd (let z : ◌≡◌ {A = ℕ} 0 1 = cc e in omega arith)
 
 -- Whatever two words settle on is the first of the list that they have in common,
 pub settled_first : (order : List ℕ) (own partner ability : ℕ) (master : Bool)
-    → resolution_of order own partner ≡ Settled ability master → FirstCommon order own partner ability
+    → resolution_of order own partner ≡ settled ability master → FirstCommon order own partner ability
 unfolding resolution_of
 settled_first order own partner ability master e =
     first_common order own partner ability
@@ -120,7 +121,7 @@ settled_first order own partner ability master e =
     (settled_by (first_of (common_of order own partner)) (role_of own partner)) ability master e))
 
 -- and None is answered only where they have none in common.
-pub none_only : (order : List ℕ) (own partner : ℕ) → resolution_of order own partner ≡ Refused None → NoneCommon order own partner
+pub none_only : (order : List ℕ) (own partner : ℕ) → resolution_of order own partner ≡ Err refusal.None → NoneCommon order own partner
 unfolding resolution_of
 none_only order own partner e =
     none_common order own partner

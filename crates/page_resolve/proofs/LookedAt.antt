@@ -5,6 +5,7 @@ use mathlib.Core.List.{List, [], ◌∷◌}
 use Prim.Native.Nat.{ℕ, suc, ◌<◌, ◌^◌}
 use native.Mathlib.Omega.{arith}
 use lib.Dec.{eqb, ltb}
+use Rattle.std.specs.Prelude.{Some}
 use lib.ListN.{length, get_or}
 use borrow.Author.Tests.{lt-leb}
 use Rattle.page_word.specs.Word.{is_wide, has_bit}
@@ -33,8 +34,8 @@ same_common (n ∷ order) a b partner h =
     (same_common order a b partner (λ k l. h (suc k) (omega arith)))
 
 same_role_by : (f g : Bool) (a b partner : ℕ) → field_of Nonce a ≡ field_of Nonce b → role_by f g a partner ≡ role_by f g b partner
-same_role_by false false a b partner h = ap (λ (t : ℕ). master_if (ltb (field_of Nonce partner) t)) h
-same_role_by true false a b partner h = ap (λ (t : ℕ). master_if (has_bit t 4)) h
+same_role_by false false a b partner h = ap (λ (t : ℕ). Some (master_if (ltb (field_of Nonce partner) t))) h
+same_role_by true false a b partner h = ap (λ (t : ℕ). Some (master_if (has_bit t 4))) h
 same_role_by false true a b partner h = refl
 same_role_by true true a b partner h = ap (λ (t : ℕ). both_forced (has_bit t 4) (has_t4 partner)) h
 

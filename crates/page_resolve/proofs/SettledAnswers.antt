@@ -10,20 +10,17 @@ use Rattle.answers.specs.declared.Refusal.TheVariants.{Wide}
 use Rattle.page_word.specs.Word.{is_wide, among}
 use Rattle.page_word.proofs.ComputedTest.{and_left, and_right}
 use Rattle.page_word.specs.Fields.{has_other_selector, is_tie}
-use Rattle.page_resolve.specs.declared.rates.Rate.{Rate}
-use Rattle.page_resolve.specs.declared.rates.Rate.TheVariants.{Ability, Missing}
 use Rattle.page_resolve.specs.declared.roles.Role.{Role}
-use Rattle.page_resolve.specs.declared.roles.Role.TheVariants.{Master, Slave, Fault}
-use Rattle.page_resolve.specs.declared.resolving.Resolution.{Resolution}
-use Rattle.page_resolve.specs.declared.resolving.Resolution.TheVariants.{Refused}
+use Rattle.page_resolve.specs.declared.roles.Role.TheVariants.{Master, Slave}
+use Rattle.std.specs.Prelude.{Option, Some, None, Err}
 use Rattle.page_resolve.specs.Rates.{rate_order, is_common, common_of, first_of}
 use Rattle.page_resolve.specs.Roles.{role_of}
-use Rattle.page_resolve.specs.Resolving.{settled_by, resolution_of, said_of}
+use Rattle.page_resolve.specs.Resolving.{Resolution, settled_by, resolution_of, said_of}
 
 -- The first common ability of an order of bytes is a byte.
-abbrev Small : Rate → Type 0
-Small Missing = Unit {0}
-Small (Ability n) = n < 256
+abbrev Small : Option ℕ → Type 0
+Small None = Unit {0}
+Small (Some n) = n < 256
 
 abbrev all_bytes : List ℕ → Bool
 all_bytes [] = true
@@ -43,11 +40,11 @@ pub record Settles (s : Said) : Type 0 where
   pub kind : among s.kind (8 ∷ 9 ∷ 0x82 ∷ []) ≡ true
   pub value : s.value < 2 ^ 48
 
-settles : (rate : Rate) (role : Role) → Small rate → Settles (said_of (settled_by rate role))
-settles Missing role small = record { kind = refl; value = omega arith }
-settles (Ability n) Fault small = record { kind = refl; value = omega arith }
-settles (Ability n) Master small = record { kind = refl; value = omega (arith, small) }
-settles (Ability n) Slave small = record { kind = refl; value = omega (arith, small) }
+settles : (rate : Option ℕ) (role : Option Role) → Small rate → Settles (said_of (settled_by rate role))
+settles None role small = record { kind = refl; value = omega arith }
+settles (Some n) None small = record { kind = refl; value = omega arith }
+settles (Some n) (Some Master) small = record { kind = refl; value = omega (arith, small) }
+settles (Some n) (Some Slave) small = record { kind = refl; value = omega (arith, small) }
 
 -- Two pages with selector 1 and different nonces resolve to what is settled, or, if one is none of 48 bits, to Wide.
 pub resolves : (own held : ℕ) → has_other_selector own ≡ false → has_other_selector held ≡ false → is_tie own held ≡ false
@@ -59,6 +56,6 @@ resolves own held a b tie = (
   rw (a, b, tie) (by (is_wide own || is_wide held) (settled_by (first_of (common_of rate_order own held)) (role_of own held))),
 )
   where
-    by : (t : Bool) (r : Resolution) → said_of (cond t (Refused Wide) r) ≡ cond t (refused Wide) (said_of r)
+    by : (t : Bool) (r : Resolution) → said_of (cond t (Err Wide) r) ≡ cond t (refused Wide) (said_of r)
     by true r = refl
     by false r = refl

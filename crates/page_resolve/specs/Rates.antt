@@ -1,11 +1,9 @@
 -- 01, "Rate and role": "Common bits, first in this order: A6 25GBASE-T1, A5 10G, A4 5G, A3 2.5G, A2 1000BASE-T1, A0 100BASE-T1, A1 10BASE-T1S
 -- full, A9 10BASE-T1L, A22 10BASE-T1S half. All others are ignored."
-use Rattle.std.specs.Prelude.{ℕ, Bool, ◌&&◌, List, [], ◌∷◌, if◌then◌else◌}
+use Rattle.std.specs.Prelude.{ℕ, Bool, ◌&&◌, List, [], ◌∷◌, if◌then◌else◌, Option, Some, None}
 use Rattle.page_word.specs.Word.{has_bit}
 use Rattle.page_word.specs.Fields.{field_of}
 use Rattle.page_word.specs.declared.fields.Field.TheVariants.{Abilities}
-use Rattle.page_resolve.specs.declared.rates.Rate.{Rate}
-use Rattle.page_resolve.specs.declared.rates.Rate.TheVariants.{Ability, Missing}
 
 -- The numbers n of the abilities An, in that order. An ability that is not in the list is never looked at.
 abbrev pub rate_order : List ℕ
@@ -25,6 +23,6 @@ common_of [] own partner = []
 common_of (n ∷ order) own partner = let rest = common_of order own partner in if is_common own partner n then n ∷ rest else rest
 
 -- "first in this order", if there is one.
-abbrev pub first_of : List ℕ → Rate
-first_of [] = Missing
-first_of (n ∷ rest) = Ability n
+abbrev pub first_of : List ℕ → Option ℕ
+first_of [] = None
+first_of (n ∷ rest) = Some n

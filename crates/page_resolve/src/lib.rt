@@ -5,4 +5,4 @@ mod rates;
 mod resolving;
 mod roles;
 
-pub use resolving::{Resolution, resolve};
+pub use resolving::{Resolution, Settled, answer_to, resolve};

@@ -4,13 +4,6 @@ ghost use Rattle.page_resolve.specs.Rates.{has_ability, common_of, first_of};
 
 use page_word::Field;
 
-// The number n of the ability An that was found.
-#[derive(Drop)]
-pub(crate) enum Rate {
-    Ability(u8),
-    Missing,
-}
-
 // A27 would be the first ability past the field: no number from there on is shifted by.
 const PAST: u8 = 27;
 
@@ -19,23 +12,17 @@ const PAST: u8 = 27;
 fn has_ability(word: u64, ability: u8) -> bool
     ensures { result ≡ has_ability word ability }
 {
-    if PAST <= ability {
-        return false;
-    }
-    (page_word::get(word, Field::Abilities) >> ability) % 2 == 1
+    ability < PAST && (page_word::get(word, Field::Abilities) >> ability) % 2 == 1
 }
 
-// The first ability of the list that both words have.
-pub(crate) fn first_common(order: &[u8], own: u64, partner: u64) -> Rate
+// The number of the first ability of the list that both words have, if they have one.
+pub(crate) fn first_common(order: &[u8], own: u64, partner: u64) -> Option<u8>
     ensures { result ≡ first_of (common_of order.now own partner) }
 {
-    let mut i: usize = 0;
-    while i < order.len() {
-        let ability = order[i];
+    for &ability in order {
         if has_ability(own, ability) && has_ability(partner, ability) {
-            return Rate::Ability(ability);
+            return Some(ability);
         }
-        i += 1;
     }
-    Rate::Missing
+    None
 }

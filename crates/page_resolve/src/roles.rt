@@ -4,12 +4,11 @@ ghost use Rattle.page_resolve.specs.Roles.{is_forced, has_t4, master_if, both_fo
 
 use page_word::Field;
 
-// The own side's role, or that the two ask for the same one.
+// What one side of a link is to the other.
 #[derive(Drop)]
 pub(crate) enum Role {
     Master,
     Slave,
-    Fault,
 }
 
 // M/S.
@@ -32,35 +31,27 @@ fn master_if(master: bool) -> Role
     if master { Role::Master } else { Role::Slave }
 }
 
-// What two sides get that are both forced.
-fn both_forced(own: bool, partner: bool) -> Role
+// What the own side gets of two that are both forced: none, if they ask for the same.
+fn both_forced(own: bool, partner: bool) -> Option<Role>
     ensures { result ≡ both_forced own partner }
 {
-    if own {
-        if partner {
-            return Role::Fault;
-        }
-        return Role::Master;
+    if own == partner {
+        return None;
     }
-    if partner {
-        return Role::Slave;
-    }
-    Role::Fault
+    Some(master_if(own))
 }
 
-// The own side's role. T4 counts only where M/S is 1: elsewhere it is a bit of chance.
+// The own side's role, or none, if the two ask for the same one. T4 counts only where M/S is 1: elsewhere it is a bit of chance.
 #[tactic(auto, unfolding(crate::specs::Roles::role_of))]
-pub(crate) fn own_role(own: u64, partner: u64) -> Role
+pub(crate) fn own_role(own: u64, partner: u64) -> Option<Role>
     ensures { result ≡ role_of own partner }
 {
-    if is_forced(own) {
-        if is_forced(partner) {
-            return both_forced(has_t4(own), has_t4(partner));
-        }
-        return master_if(has_t4(own));
+    match (is_forced(own), is_forced(partner)) {
+        (true, true) => both_forced(has_t4(own), has_t4(partner)),
+        (true, false) => Some(master_if(has_t4(own))),
+        (false, true) => Some(master_if(!has_t4(partner))),
+        (false, false) => Some(master_if(
+            page_word::get(partner, Field::Nonce) < page_word::get(own, Field::Nonce),
+        )),
     }
-    if is_forced(partner) {
-        return master_if(!has_t4(partner));
-    }
-    master_if(page_word::get(partner, Field::Nonce) < page_word::get(own, Field::Nonce))
 }
