@@ -16,12 +16,12 @@ use Rattle.page_resolve.specs.declared.roles.Role.TheVariants.{Master, Slave}
 use Rattle.page_resolve.specs.Rates.{has_ability, common_of, first_of}
 use Rattle.page_resolve.specs.Roles.{is_forced, has_t4, is_higher, master_if, both_forced, role_by, role_of}
 use Rattle.page_word.specs.Word.{is_wide}
-use Rattle.page_resolve.specs.Resolving.{Resolution, settled, settled_by, resolution_of}
+use Rattle.page_resolve.specs.Resolving.{Resolution, rate_and_role, settled_by, resolution_of}
 
 -- What the other end answers.
 abbrev pub opposite : Resolution → Resolution
 opposite (Err refused) = Err refused
-opposite (Ok here) = settled here.ability (not here.master)
+opposite (Ok here) = rate_and_role here.ability (not here.master)
 
 abbrev pub other_role : Option Role → Option Role
 other_role (Some Master) = Some Slave

@@ -16,7 +16,7 @@ use Rattle.page_resolve.specs.Rates.{has_ability, is_common, common_of, first_of
 use Rattle.page_resolve.specs.Roles.{role_of}
 use Rattle.page_word.specs.Word.{is_wide}
 use Rattle.page_word.specs.Fields.{has_other_selector, is_tie}
-use Rattle.page_resolve.specs.Resolving.{Resolution, settled, settled_by, resolution_of}
+use Rattle.page_resolve.specs.Resolving.{Resolution, rate_and_role, settled_by, resolution_of}
 use Rattle.page_resolve.proofs.CommonAbilities.{first_yes, first_no}
 
 -- The ability stands at a place of the list, and is the first there that both words have.
@@ -81,7 +81,7 @@ none_common (n ∷ rest) own partner e = by (none_common rest own partner) (is_c
 
 -- An answer that is none of the first three refusals comes from the rate and the role.
 settles : (wide other tie : Bool) (x : Resolution) (ability : ℕ) (master : Bool)
-    → cond wide (Err refusal.Wide) (cond other (Err refusal.Selector) (cond tie (Err refusal.Tie) x)) ≡ settled ability master → x ≡ settled ability master
+    → cond wide (Err refusal.Wide) (cond other (Err refusal.Selector) (cond tie (Err refusal.Tie) x)) ≡ rate_and_role ability master → x ≡ rate_and_role ability master
 settles true other tie x ability master e = absurd (let z : ◌≡◌ {A = ℕ} 0 1 = cc e in omega arith)
 settles false true tie x ability master e = absurd (let z : ◌≡◌ {A = ℕ} 0 1 = cc e in omega arith)
 settles false false true x ability master e = absurd (let z : ◌≡◌ {A = ℕ} 0 1 = cc e in omega arith)
@@ -98,7 +98,7 @@ abbrev ability_in : Resolution → ℕ
 ability_in (Ok here) = here.ability
 ability_in (Err refused) = 0
 
-rate_settled : (rate : Option ℕ) (role : Option Role) (ability : ℕ) (master : Bool) → settled_by rate role ≡ settled ability master → rate ≡ Some ability
+rate_settled : (rate : Option ℕ) (role : Option Role) (ability : ℕ) (master : Bool) → settled_by rate role ≡ rate_and_role ability master → rate ≡ Some ability
 rate_settled None role ability master e = absurd (let z : ◌≡◌ {A = ℕ} 0 1 = cc e in omega arith)
 rate_settled (Some n) (Some Master) ability master e = ap (λ (r : Resolution). Some (ability_in r)) e
 rate_settled (Some n) (Some Slave) ability master e = ap (λ (r : Resolution). Some (ability_in r)) e
@@ -112,7 +112,7 @@ rate_missing (Some n) None e = absurd (let z : ◌≡◌ {A = ℕ} 0 1 = cc e in
 
 -- Whatever two words settle on is the first of the list that they have in common,
 pub settled_first : (order : List ℕ) (own partner ability : ℕ) (master : Bool)
-    → resolution_of order own partner ≡ settled ability master → FirstCommon order own partner ability
+    → resolution_of order own partner ≡ rate_and_role ability master → FirstCommon order own partner ability
 unfolding resolution_of
 settled_first order own partner ability master e =
     first_common order own partner ability

@@ -15,15 +15,15 @@ use Rattle.page_resolve.specs.Roles.{role_of}
 abbrev pub Resolution : Type 0
 Resolution = Result Settled Refusal
 
-abbrev pub settled : (ability : ℕ) (master : Bool) → Resolution
-settled ability master = Ok (record { ability = ability; master = master })
+abbrev pub rate_and_role : (ability : ℕ) (master : Bool) → Resolution
+rate_and_role ability master = Ok (record { ability = ability; master = master })
 
 -- "None, Roles, in that order", else the ability and whether the own side is master.
 abbrev pub settled_by : Option ℕ → Option Role → Resolution
 settled_by None role = Err refusal.None
 settled_by (Some n) None = Err refusal.Roles
-settled_by (Some n) (Some Master) = settled n true
-settled_by (Some n) (Some Slave) = settled n false
+settled_by (Some n) (Some Master) = rate_and_role n true
+settled_by (Some n) (Some Slave) = rate_and_role n false
 
 -- What two words come to, with the abilities of any ordered list: "Wide, Selector of either, Tie, None, Roles, in that order".
 unfoldable pub resolution_of : (order : List ℕ) (own partner : ℕ) → Resolution

@@ -1,3 +1,4 @@
+pub mod YesOrNo
 pub mod Dues
 pub mod ClockAhead
 pub mod PlainRecordLaws

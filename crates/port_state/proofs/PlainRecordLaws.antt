@@ -2,17 +2,15 @@
 use mathlib.Core.Path.{◌≡◌, refl}
 use mathlib.Core.Bool.{Bool, true, false}
 use Rattle.answers.specs.declared.Refusal.{Refusal}
-use Rattle.answers.specs.declared.Refusal.TheVariants.{Gap, Cut, Check, Selector, Tie, Changed, Echo, None, Roles, Register, Turn, Room, Wide, Mode, Odd, Toggle, Symbol, Count, Run, Length}
+use Rattle.answers.specs.declared.Refusal.TheVariants as refusal
 use Rattle.answers.specs.Numbers.{number_of, refusal_of}
-use Rattle.page_resolve.specs.declared.resolving.Resolution.TheVariants.{Refused, Settled}
+use Rattle.std.specs.Prelude.{Some, None, Ok, Err}
 use Rattle.line_reader.specs.declared.reader.Reader.{Reader}
 use Rattle.line_reader.specs.declared.reader.Reader.TheVariants.{Fresh, Open, Dropping}
 use Rattle.port_state.specs.declared.State.TheVariants.{Off, Break, Ability, Ack, Complete, CheckLink, Up}
-use Rattle.port_state.specs.declared.Outcome.{Outcome}
-use Rattle.port_state.specs.declared.Outcome.TheVariants.{NoneYet, Resolved}
 use Rattle.port_state.specs.declared.rounds.Round.{Round}
 use Rattle.port_state.specs.declared.rounds.Round.TheVariants.{Base, First, Later}
-use Rattle.port_state.specs.Memory.{State, Device}
+use Rattle.port_state.specs.Memory.{State, Outcome, Device}
 use Rattle.port_state.specs.PlainRecords.{is_set, one_if, state_of, state_number, round_of, round_number, reader_of, reader_numbers, outcome_of, outcome_numbers, device_of, record_of}
 
 set_back : (test : Bool) → is_set (one_if test) ≡ test
@@ -42,36 +40,35 @@ reader_back Fresh = refl
 reader_back (Open position last bits) = refl
 reader_back (Dropping last) = refl
 
-refused_back : (refusal : Refusal) → outcome_of (number_of refusal) 0 false ≡ Resolved (Refused refusal)
+refused_back : (refused : Refusal) → outcome_of (number_of refused) 0 false ≡ Some (Err refused)
 unfolding outcome_of refusal_of
-refused_back Gap = refl
-refused_back Cut = refl
-refused_back Check = refl
-refused_back Selector = refl
-refused_back Tie = refl
-refused_back Changed = refl
-refused_back Echo = refl
-refused_back None = refl
-refused_back Roles = refl
-refused_back Register = refl
-refused_back Turn = refl
-refused_back Room = refl
-refused_back Wide = refl
-refused_back Mode = refl
-refused_back Odd = refl
-refused_back Toggle = refl
-refused_back Symbol = refl
-refused_back Count = refl
-refused_back Run = refl
-refused_back Length = refl
+refused_back refusal.Gap = refl
+refused_back refusal.Cut = refl
+refused_back refusal.Check = refl
+refused_back refusal.Selector = refl
+refused_back refusal.Tie = refl
+refused_back refusal.Changed = refl
+refused_back refusal.Echo = refl
+refused_back refusal.None = refl
+refused_back refusal.Roles = refl
+refused_back refusal.Register = refl
+refused_back refusal.Turn = refl
+refused_back refusal.Room = refl
+refused_back refusal.Wide = refl
+refused_back refusal.Mode = refl
+refused_back refusal.Odd = refl
+refused_back refusal.Toggle = refl
+refused_back refusal.Symbol = refl
+refused_back refusal.Count = refl
+refused_back refusal.Run = refl
+refused_back refusal.Length = refl
 
 outcome_back : (outcome : Outcome)
     → outcome_of (outcome_numbers outcome).kind (outcome_numbers outcome).ability (is_set (outcome_numbers outcome).is_master) ≡ outcome
 unfolding outcome_of
-outcome_back NoneYet = refl
-outcome_back (Resolved (Refused refusal)) = refused_back refusal
-outcome_back (Resolved (Settled ability true)) = refl
-outcome_back (Resolved (Settled ability false)) = refl
+outcome_back None = refl
+outcome_back (Some (Err refused)) = refused_back refused
+outcome_back (Some (Ok settled)) = rw (set_back settled.master)
 
 pub comes_back : (d : Device) → device_of (record_of d) ≡ d
 unfolding device_of record_of

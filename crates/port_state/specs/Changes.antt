@@ -2,9 +2,8 @@
 -- definitions read its fields.
 use Rattle.std.specs.Prelude.{ℕ, Bool, true, false}
 use Rattle.line_reader.specs.declared.reader.Reader.{Reader}
-use Rattle.port_state.specs.declared.Outcome.{Outcome}
 use Rattle.port_state.specs.declared.rounds.Round.{Round}
-use Rattle.port_state.specs.Memory.{State, Lasting, Talk, NextPages, Link, Device}
+use Rattle.port_state.specs.Memory.{State, Lasting, Talk, NextPages, Outcome, Link, Device}
 
 abbrev pub with_lasting : Lasting → Device → Device
 with_lasting lasting d = record { lasting = lasting; state = d.state; link = d.link }

@@ -1,17 +1,21 @@
 -- 01, "The negotiation (LSM)", and its amendments: what a device remembers, and what entering Break or Off leaves of it.
-use Rattle.std.specs.Prelude.{ℕ, ◌≡◌, Bool, true, false}
+use Rattle.std.specs.Prelude.{ℕ, ◌≡◌, Bool, true, false, Option, None}
 use Rattle.answers.specs.Answers.{Said, said}
 use Rattle.line_reader.specs.declared.reader.Reader.TheVariants.{Fresh}
+use Rattle.page_resolve.specs.Resolving.{Resolution}
 pub use Rattle.port_state.specs.declared.State.{State}
 use Rattle.port_state.specs.declared.State.TheVariants.{Off, Break, Ability, Ack, Complete, CheckLink, Up}
 pub use Rattle.port_state.specs.declared.Lasting.{Lasting}
 pub use Rattle.port_state.specs.declared.Talk.{Talk}
 pub use Rattle.port_state.specs.declared.NextPages.{NextPages}
 use Rattle.port_state.specs.declared.rounds.Round.TheVariants.{Base}
-use Rattle.port_state.specs.declared.Outcome.TheVariants.{NoneYet}
 pub use Rattle.port_state.specs.declared.Link.{Link}
 pub use Rattle.port_state.specs.declared.Device.{Device}
 use Rattle.port_state.specs.declared.Reply.{Reply}
+
+-- What resolving came to, if it was asked.
+abbrev pub Outcome : Type 0
+Outcome = Option Resolution
 
 -- What an event has to bring: what is said, and the device afterwards.
 pub record Due : Type 0 where
@@ -65,7 +69,7 @@ no_next_pages reading =
 -- Nothing of any link: 7.517-7.519 zero, no Next Pages, nothing said, no outcome, a fresh reader.
 abbrev pub no_link : (reading : ℕ) → Link
 no_link reading =
-    record { partner = 0; next = no_next_pages reading; talk = no_talk reading; outcome = NoneYet; reader = Fresh }
+    record { partner = 0; next = no_next_pages reading; talk = no_talk reading; outcome = None; reader = Fresh }
 
 -- A device that knows no link, with what outlives links.
 abbrev pub without_link : Lasting → State → (reading : ℕ) → Device

@@ -1,20 +1,18 @@
 -- 02, request 14, "on a record that the caller lends": the device as plain numbers, for a caller that knows no enum (fixed interfaces, request 14: "what device a record means, at any content; what
 -- record a device has").
-use Rattle.std.specs.Prelude.{ℕ, Bool, not, if◌then◌else◌}
+use Rattle.std.specs.Prelude.{ℕ, Bool, not, if◌then◌else◌, Some, None, Ok, Err}
 use Rattle.answers.specs.Choices.{◌=?◌}
 use Rattle.answers.specs.Numbers.{number_of, refusal_of}
-use Rattle.page_resolve.specs.declared.resolving.Resolution.TheVariants.{Refused, Settled}
+use Rattle.page_resolve.specs.Resolving.{rate_and_role}
 use Rattle.line_reader.specs.declared.reader.Reader.{Reader}
 use Rattle.line_reader.specs.declared.reader.Reader.TheVariants.{Fresh, Open, Dropping}
 use Rattle.port_state.specs.declared.State.TheVariants.{Off, Break, Ability, Ack, Complete, CheckLink, Up}
-use Rattle.port_state.specs.declared.Outcome.{Outcome}
-use Rattle.port_state.specs.declared.Outcome.TheVariants.{NoneYet, Resolved}
 use Rattle.port_state.specs.declared.rounds.Round.{Round}
 use Rattle.port_state.specs.declared.rounds.Round.TheVariants.{Base, First, Later}
 use Rattle.port_state.specs.declared.plain_record.PlainRecord.{PlainRecord}
 use Rattle.port_state.specs.declared.plain_record.ReaderNumbers.{ReaderNumbers}
 use Rattle.port_state.specs.declared.plain_record.OutcomeNumbers.{OutcomeNumbers}
-use Rattle.port_state.specs.Memory.{State, Lasting, Talk, NextPages, Link, Device, by_state}
+use Rattle.port_state.specs.Memory.{State, Lasting, Talk, NextPages, Outcome, Link, Device, by_state}
 use Rattle.port_state.specs.Rounds.{by_round}
 
 -- Yes or no: 0 is no, and anything else yes.
@@ -62,14 +60,14 @@ reader_numbers (Dropping last) = record { kind = 2; position = 0; last = last; b
 -- looked at only with 0x82, and are 0 in what `record_of` gives of another outcome.
 unfoldable pub outcome_of : (kind ability : ℕ) (master : Bool) → Outcome
 outcome_of kind ability master =
-    if kind =? 0x82 then Resolved (Settled ability master)
-    else if kind =? 0 then NoneYet
-    else Resolved (Refused (refusal_of kind))
+    if kind =? 0x82 then Some (rate_and_role ability master)
+    else if kind =? 0 then None
+    else Some (Err (refusal_of kind))
 
 abbrev pub outcome_numbers : Outcome → OutcomeNumbers
-outcome_numbers NoneYet = record { kind = 0; ability = 0; is_master = 0 }
-outcome_numbers (Resolved (Refused refusal)) = record { kind = number_of refusal; ability = 0; is_master = 0 }
-outcome_numbers (Resolved (Settled ability master)) = record { kind = 0x82; ability = ability; is_master = one_if master }
+outcome_numbers None = record { kind = 0; ability = 0; is_master = 0 }
+outcome_numbers (Some (Err refusal)) = record { kind = number_of refusal; ability = 0; is_master = 0 }
+outcome_numbers (Some (Ok settled)) = record { kind = 0x82; ability = settled.ability; is_master = one_if settled.master }
 
 -- The parts of a device that a record means. `heard` is the bank 7.523-7.525; `is_heard` says whether the mark is "heard".
 abbrev pub lasting_of : PlainRecord → Lasting

@@ -17,14 +17,11 @@ pub use changes::{
 };
 use line_reader::Reader;
 use page_resolve::Resolution;
-pub use plain_record::{
-    PlainRecord, ReaderNumbers, SETTLED, device_of, is_set, reader_numbers, reader_of, record_of,
-    round_of, state_of,
-};
+pub use plain_record::{PlainRecord, ReaderNumbers, SETTLED, is_set};
 pub use rounds::{Round, held_in_round, is_base, is_first, own_in_round};
 
-// The states of the negotiation.
-#[derive(Clone, Copy)]
+// The states of the negotiation, in the order of their numbers in a plain record.
+#[derive(Clone, Copy, PartialEq, Eq)]
 pub enum State {
     Off,
     Break,
@@ -64,11 +61,7 @@ pub struct Talk {
 }
 
 // What resolving came to, if it was asked.
-#[derive(Clone, Copy)]
-pub enum Outcome {
-    NoneYet,
-    Resolved(Resolution),
-}
+pub type Outcome = Option<Resolution>;
 
 // What Next Pages add to a link: 7.520-522, the own Next Page as the host writes it, and whether one is loaded; 7.523-525, the heard one; the own and
 // the held Next Page, the round, and the reading of the last good page.
@@ -113,10 +106,7 @@ pub struct Reply {
 pub fn answered(answer: Answer, device: Device) -> Reply
     ensures { Meets result (due (said answer) device) }
 {
-    Reply {
-        answer: answer,
-        device: device,
-    }
+    Reply { answer, device }
 }
 
 // Nothing said and nothing heard, every time at one reading.
@@ -158,7 +148,7 @@ fn no_link(reading: u32) -> Link
         partner: 0,
         next: no_next_pages(reading),
         talk: no_talk(reading),
-        outcome: Outcome::NoneYet,
+        outcome: None,
         reader: Reader::Fresh,
     }
 }
@@ -168,8 +158,8 @@ fn without_link(lasting: Lasting, state: State, reading: u32) -> Device
     ensures { result ≡ without_link lasting state reading }
 {
     Device {
-        lasting: lasting,
-        state: state,
+        lasting,
+        state,
         link: no_link(reading),
     }
 }
@@ -179,13 +169,12 @@ impl Device {
     pub fn fresh() -> Self
         ensures { result ≡ fresh_device }
     {
-        let flags = Flags {
-            received: false,
-            fault: false,
-        };
         let unwritten = Lasting {
             advertised: 0,
-            flags: flags,
+            flags: Flags {
+                received: false,
+                fault: false,
+            },
         };
         without_link(unwritten, State::Off, 0)
     }
@@ -195,14 +184,12 @@ impl Device {
 pub fn enter_break(device: Device, reading: u32) -> Device
     ensures { result ≡ into_break reading device }
 {
-    let lasting = device.lasting;
-    without_link(lasting, State::Break, reading)
+    without_link(device.lasting, State::Break, reading)
 }
 
 // The device in Off: the link is forgotten, and no timer starts.
 pub fn enter_off(device: Device) -> Device
     ensures { result ≡ into_off device }
 {
-    let lasting = device.lasting;
-    without_link(lasting, State::Off, 0)
+    without_link(device.lasting, State::Off, 0)
 }

@@ -1,12 +1,12 @@
 // The device as a record of plain numbers, in which a caller that knows no enum can keep it. Any content means some device.
-ghost use Rattle.std.specs.Prelude.{◌≡◌, if◌then◌else◌};
-ghost use Rattle.port_state.specs.PlainRecords.{is_set, one_if, state_of, state_number, round_of, round_number, reader_of, reader_numbers, outcome_of, outcome_numbers, lasting_of, talk_of, next_pages_of, link_of, device_of, record_of};
+ghost use Rattle.std.specs.Prelude.{◌≡◌};
+ghost use Rattle.port_state.specs.PlainRecords.{is_set, state_of, state_number, round_of, round_number, reader_of, reader_numbers, outcome_of, outcome_numbers, lasting_of, talk_of, next_pages_of, link_of, device_of, record_of};
 
 use crate::rounds::Round;
 use crate::{Device, Flags, Lasting, Link, NextPages, Outcome, State, Talk};
 use answers::Refusal;
 use line_reader::Reader;
-use page_resolve::Resolution;
+use page_resolve::Settled;
 
 // The banks of registers, the base and Next Pages, the readings of timers and marks; the reader's kind with its bits, its last reading and its position; bytes for
 // the state, the round, the outcome with ability and role, and for yes or no. include/maststep.h declares the same for C.
@@ -59,263 +59,260 @@ pub struct OutcomeNumbers {
     pub is_master: u8,
 }
 
-// A byte as yes or no.
+// A byte of the C record as yes or no.
 pub fn is_set(number: u8) -> bool
     ensures { result ≡ is_set number }
 {
     number != 0
 }
 
-fn one_if(test: bool) -> u8
-    ensures { result ≡ one_if test }
-{
-    if test {
-        return 1;
-    }
-    0
-}
-
-// The state of a number.
-#[tactic(auto, unfolding(crate::specs::PlainRecords::state_of))]
-pub fn state_of(number: u8) -> State
-    ensures { result ≡ state_of number }
-{
-    match number {
-        1 => State::Break,
-        2 => State::Ability,
-        3 => State::Ack,
-        4 => State::Complete,
-        5 => State::CheckLink,
-        6 => State::Up,
-        _ => State::Off,
+impl From<u8> for State {
+    #[tactic(auto, unfolding(crate::specs::PlainRecords::state_of))]
+    fn from(number: u8) -> State
+        ensures { result ≡ state_of number }
+    {
+        match number {
+            1 => State::Break,
+            2 => State::Ability,
+            3 => State::Ack,
+            4 => State::Complete,
+            5 => State::CheckLink,
+            6 => State::Up,
+            _ => State::Off,
+        }
     }
 }
 
-fn state_number(state: State) -> u8
-    ensures { result ≡ state_number state }
-{
-    match state {
-        State::Off => 0,
-        State::Break => 1,
-        State::Ability => 2,
-        State::Ack => 3,
-        State::Complete => 4,
-        State::CheckLink => 5,
-        State::Up => 6,
+impl From<State> for u8 {
+    fn from(state: State) -> u8
+        ensures { result ≡ state_number state }
+    {
+        state as u8
     }
 }
 
-// The round of a number.
-#[tactic(auto, unfolding(crate::specs::PlainRecords::round_of))]
-pub fn round_of(number: u8) -> Round
-    ensures { result ≡ round_of number }
-{
-    match number {
-        0 => Round::Base,
-        1 => Round::First,
-        _ => Round::Later,
+impl From<u8> for Round {
+    #[tactic(auto, unfolding(crate::specs::PlainRecords::round_of))]
+    fn from(number: u8) -> Round
+        ensures { result ≡ round_of number }
+    {
+        match number {
+            0 => Round::Base,
+            1 => Round::First,
+            _ => Round::Later,
+        }
     }
 }
 
-fn round_number(round: Round) -> u8
-    ensures { result ≡ round_number round }
-{
-    match round {
-        Round::Base => 0,
-        Round::First => 1,
-        Round::Later => 2,
+impl From<Round> for u8 {
+    fn from(round: Round) -> u8
+        ensures { result ≡ round_number round }
+    {
+        round as u8
     }
 }
 
-// The reader of a kind's number, with what it holds.
-#[tactic(auto, unfolding(crate::specs::PlainRecords::reader_of))]
-pub fn reader_of(kind: u8, position: u32, last: u32, bits: u64) -> Reader
-    ensures { result ≡ reader_of kind position last bits }
-{
-    match kind {
-        0 => Reader::Fresh,
-        1 => Reader::Open {
-            at: position,
-            last: last,
-            bits: bits,
-        },
-        _ => Reader::Dropping { last: last },
+impl From<PlainRecord> for Reader {
+    // The reader of a record, by its kind's number.
+    #[tactic(auto, unfolding(crate::specs::PlainRecords::reader_of))]
+    fn from(plain: PlainRecord) -> Reader
+        ensures { result ≡ reader_of plain.reader plain.position plain.last plain.bits }
+    {
+        match plain.reader {
+            0 => Reader::Fresh,
+            1 => Reader::Open {
+                at: plain.position,
+                last: plain.last,
+                bits: plain.bits,
+            },
+            _ => Reader::Dropping { last: plain.last },
+        }
     }
 }
 
-// A reader as numbers. What it does not hold is 0.
-pub fn reader_numbers(reader: Reader) -> ReaderNumbers
-    ensures { result ≡ reader_numbers reader }
-{
-    match reader {
-        Reader::Fresh => ReaderNumbers {
-            kind: 0,
-            position: 0,
-            last: 0,
-            bits: 0,
-        },
-        Reader::Open { at, last, bits } => ReaderNumbers {
-            kind: 1,
-            position: at,
-            last: last,
-            bits: bits,
-        },
-        Reader::Dropping { last } => ReaderNumbers {
-            kind: 2,
-            position: 0,
-            last: last,
-            bits: 0,
-        },
+impl From<Reader> for ReaderNumbers {
+    // What a reader does not hold is 0.
+    fn from(reader: Reader) -> ReaderNumbers
+        ensures { result ≡ reader_numbers reader }
+    {
+        match reader {
+            Reader::Fresh => ReaderNumbers {
+                kind: 0,
+                position: 0,
+                last: 0,
+                bits: 0,
+            },
+            Reader::Open { at, last, bits } => ReaderNumbers {
+                kind: 1,
+                position: at,
+                last,
+                bits,
+            },
+            Reader::Dropping { last } => ReaderNumbers {
+                kind: 2,
+                position: 0,
+                last,
+                bits: 0,
+            },
+        }
     }
 }
 
-// The kind of an outcome with a rate, as answers have it.
+// The kind of an outcome with a rate, as answers have it and as the C record keeps it.
 pub const SETTLED: u8 = 130;
 
-#[tactic(auto, unfolding(crate::specs::PlainRecords::outcome_of))]
-fn outcome_of(kind: u8, ability: u8, master: bool) -> Outcome
-    ensures { result ≡ outcome_of kind ability master }
-{
-    if kind == SETTLED {
-        return Outcome::Resolved(Resolution::Settled { ability, master });
+impl From<PlainRecord> for Outcome {
+    // The outcome of a record, by its kind.
+    #[tactic(auto, unfolding(crate::specs::PlainRecords::outcome_of))]
+    fn from(plain: PlainRecord) -> Outcome
+        ensures { result ≡ outcome_of plain.outcome plain.ability (is_set plain.is_master) }
+    {
+        match plain.outcome {
+            SETTLED => Some(Ok(Settled {
+                ability: plain.ability,
+                master: is_set(plain.is_master),
+            })),
+            0 => None,
+            refused => Some(Err(Refusal::from(refused))),
+        }
     }
-    if kind == 0 {
-        return Outcome::NoneYet;
-    }
-    Outcome::Resolved(Resolution::Refused(Refusal::from(kind)))
 }
 
-fn outcome_numbers(outcome: Outcome) -> OutcomeNumbers
-    ensures { result ≡ outcome_numbers outcome }
-{
-    match outcome {
-        Outcome::NoneYet => OutcomeNumbers {
-            kind: 0,
-            ability: 0,
-            is_master: 0,
-        },
-        Outcome::Resolved(resolution) => match resolution {
-            Resolution::Refused(refusal) => OutcomeNumbers {
+impl From<Outcome> for OutcomeNumbers {
+    // What an outcome does not hold is 0.
+    fn from(outcome: Outcome) -> OutcomeNumbers
+        ensures { result ≡ outcome_numbers outcome }
+    {
+        match outcome {
+            None => OutcomeNumbers {
+                kind: 0,
+                ability: 0,
+                is_master: 0,
+            },
+            Some(Err(refusal)) => OutcomeNumbers {
                 kind: u8::from(refusal),
                 ability: 0,
                 is_master: 0,
             },
-            Resolution::Settled { ability, master } => OutcomeNumbers {
+            Some(Ok(settled)) => OutcomeNumbers {
                 kind: SETTLED,
-                ability: ability,
-                is_master: one_if(master),
+                ability: settled.ability,
+                is_master: u8::from(settled.master),
             },
-        },
+        }
     }
 }
 
-fn lasting_of(plain: PlainRecord) -> Lasting
-    ensures { result ≡ lasting_of plain }
-{
-    let flags = Flags {
-        received: is_set(plain.is_received),
-        fault: is_set(plain.is_fault),
-    };
-    Lasting {
-        advertised: plain.advertised,
-        flags: flags,
+impl From<PlainRecord> for Lasting {
+    fn from(plain: PlainRecord) -> Lasting
+        ensures { result ≡ lasting_of plain }
+    {
+        Lasting {
+            advertised: plain.advertised,
+            flags: Flags {
+                received: is_set(plain.is_received),
+                fault: is_set(plain.is_fault),
+            },
+        }
     }
 }
 
-fn talk_of(plain: PlainRecord) -> Talk
-    ensures { result ≡ talk_of plain }
-{
-    Talk {
-        own: plain.own_base,
-        held: plain.held_base,
-        mark: plain.mark,
-        timer: plain.timer,
-        count: plain.count,
-        out: is_set(plain.is_out),
-        heard: is_set(plain.is_heard),
-        latch: is_set(plain.is_latched),
+impl From<PlainRecord> for Talk {
+    fn from(plain: PlainRecord) -> Talk
+        ensures { result ≡ talk_of plain }
+    {
+        Talk {
+            own: plain.own_base,
+            held: plain.held_base,
+            mark: plain.mark,
+            timer: plain.timer,
+            count: plain.count,
+            out: is_set(plain.is_out),
+            heard: is_set(plain.is_heard),
+            latch: is_set(plain.is_latched),
+        }
     }
 }
 
-fn next_pages_of(plain: PlainRecord) -> NextPages
-    ensures { result ≡ next_pages_of plain }
-{
-    NextPages {
-        good: plain.good,
-        loaded: is_set(plain.is_loaded),
-        round: round_of(plain.round),
-        own: plain.own_next,
-        held: plain.held_next,
-        transmit: plain.transmit,
-        heard: plain.heard,
+impl From<PlainRecord> for NextPages {
+    fn from(plain: PlainRecord) -> NextPages
+        ensures { result ≡ next_pages_of plain }
+    {
+        NextPages {
+            good: plain.good,
+            loaded: is_set(plain.is_loaded),
+            round: Round::from(plain.round),
+            own: plain.own_next,
+            held: plain.held_next,
+            transmit: plain.transmit,
+            heard: plain.heard,
+        }
     }
 }
 
-fn link_of(plain: PlainRecord) -> Link
-    ensures { result ≡ link_of plain }
-{
-    let master = is_set(plain.is_master);
-    Link {
-        partner: plain.partner,
-        next: next_pages_of(plain),
-        talk: talk_of(plain),
-        outcome: outcome_of(plain.outcome, plain.ability, master),
-        reader: reader_of(plain.reader, plain.position, plain.last, plain.bits),
+impl From<PlainRecord> for Link {
+    fn from(plain: PlainRecord) -> Link
+        ensures { result ≡ link_of plain }
+    {
+        Link {
+            partner: plain.partner,
+            next: NextPages::from(plain),
+            talk: Talk::from(plain),
+            outcome: Outcome::from(plain),
+            reader: Reader::from(plain),
+        }
     }
 }
 
-// The device that a record means, whatever it holds.
-#[tactic(auto, unfolding(crate::specs::PlainRecords::device_of))]
-pub fn device_of(plain: PlainRecord) -> Device
-    ensures { result ≡ device_of plain }
-{
-    Device {
-        link: link_of(plain),
-        lasting: lasting_of(plain),
-        state: state_of(plain.state),
+impl From<PlainRecord> for Device {
+    // The device that a record means, whatever it holds.
+    #[tactic(auto, unfolding(crate::specs::PlainRecords::device_of))]
+    fn from(plain: PlainRecord) -> Device
+        ensures { result ≡ device_of plain }
+    {
+        Device {
+            link: Link::from(plain),
+            lasting: Lasting::from(plain),
+            state: State::from(plain.state),
+        }
     }
 }
 
-// The record of a device.
-#[tactic(auto, unfolding(crate::specs::PlainRecords::record_of))]
-pub fn record_of(device: Device) -> PlainRecord
-    ensures { result ≡ record_of device }
-{
-    let state = device.state;
-    let link = device.link;
-    let next = link.next;
-    let round = next.round;
-    let outcome = link.outcome;
-    let came = outcome_numbers(outcome);
-    let reader = link.reader;
-    let reading = reader_numbers(reader);
-    PlainRecord {
-        advertised: device.lasting.advertised,
-        partner: device.link.partner,
-        transmit: device.link.next.transmit,
-        heard: device.link.next.heard,
-        own_base: device.link.talk.own,
-        held_base: device.link.talk.held,
-        own_next: device.link.next.own,
-        held_next: device.link.next.held,
-        bits: reading.bits,
-        last: reading.last,
-        position: reading.position,
-        mark: device.link.talk.mark,
-        timer: device.link.talk.timer,
-        good: device.link.next.good,
-        count: device.link.talk.count,
-        reader: reading.kind,
-        state: state_number(state),
-        is_out: one_if(device.link.talk.out),
-        is_heard: one_if(device.link.talk.heard),
-        round: round_number(round),
-        is_loaded: one_if(device.link.next.loaded),
-        is_latched: one_if(device.link.talk.latch),
-        is_received: one_if(device.lasting.flags.received),
-        is_fault: one_if(device.lasting.flags.fault),
-        outcome: came.kind,
-        ability: came.ability,
-        is_master: came.is_master,
+impl From<Device> for PlainRecord {
+    #[tactic(auto, using(crate::proofs::YesOrNo::from_bool_one_if), unfolding(crate::specs::PlainRecords::record_of))]
+    fn from(device: Device) -> PlainRecord
+        ensures { result ≡ record_of device }
+    {
+        let outcome = OutcomeNumbers::from(device.link.outcome);
+        let reader = ReaderNumbers::from(device.link.reader);
+        PlainRecord {
+            advertised: device.lasting.advertised,
+            partner: device.link.partner,
+            transmit: device.link.next.transmit,
+            heard: device.link.next.heard,
+            own_base: device.link.talk.own,
+            held_base: device.link.talk.held,
+            own_next: device.link.next.own,
+            held_next: device.link.next.held,
+            bits: reader.bits,
+            last: reader.last,
+            position: reader.position,
+            mark: device.link.talk.mark,
+            timer: device.link.talk.timer,
+            good: device.link.next.good,
+            count: device.link.talk.count,
+            reader: reader.kind,
+            state: u8::from(device.state),
+            is_out: u8::from(device.link.talk.out),
+            is_heard: u8::from(device.link.talk.heard),
+            round: u8::from(device.link.next.round),
+            is_loaded: u8::from(device.link.next.loaded),
+            is_latched: u8::from(device.link.talk.latch),
+            is_received: u8::from(device.lasting.flags.received),
+            is_fault: u8::from(device.lasting.flags.fault),
+            outcome: outcome.kind,
+            ability: outcome.ability,
+            is_master: outcome.is_master,
+        }
     }
 }

@@ -4,8 +4,8 @@ ghost use Rattle.port_state.specs.Rounds.{is_base, is_first, own_in_round, held_
 
 use crate::Link;
 
-// Base pages; Next Pages, none of the partner's held yet; Next Pages, one held.
-#[derive(Clone, Copy)]
+// Base pages; Next Pages, none of the partner's held yet; Next Pages, one held. In the order of their numbers in a plain record.
+#[derive(Clone, Copy, PartialEq, Eq)]
 pub enum Round {
     Base,
     First,
@@ -15,33 +15,22 @@ pub enum Round {
 pub fn is_base(round: Round) -> bool
     ensures { result ≡ is_base round }
 {
-    match round {
-        Round::Base => true,
-        Round::First => false,
-        Round::Later => false,
-    }
+    round == Round::Base
 }
 
 pub fn is_first(round: Round) -> bool
     ensures { result ≡ is_first round }
 {
-    match round {
-        Round::Base => false,
-        Round::First => true,
-        Round::Later => false,
-    }
+    round == Round::First
 }
 
 // The own page of the round.
 pub fn own_in_round(link: Link) -> u64
     ensures { result ≡ own_in_round link }
 {
-    let next = link.next;
-    let round = next.round;
-    match round {
+    match link.next.round {
         Round::Base => link.talk.own,
-        Round::First => link.next.own,
-        Round::Later => link.next.own,
+        Round::First | Round::Later => link.next.own,
     }
 }
 
@@ -49,11 +38,8 @@ pub fn own_in_round(link: Link) -> u64
 pub fn held_in_round(link: Link) -> u64
     ensures { result ≡ held_in_round link }
 {
-    let next = link.next;
-    let round = next.round;
-    match round {
-        Round::Base => link.talk.held,
-        Round::First => link.talk.held,
+    match link.next.round {
+        Round::Base | Round::First => link.talk.held,
         Round::Later => link.next.held,
     }
 }
