@@ -1,6 +1,7 @@
 // The calls, and what each is answered with.
 use crate::cells::{mode_of, reading_of};
 use crate::lists::{edges, messages, one, parity_finish, parity_take, read, run, write};
+use page_resolve::{answer_to, resolve};
 use std::alloc::{AllocError, Global};
 
 // The cells of a state: the register's 44 symbols, and how many were taken.
@@ -15,7 +16,7 @@ fn answer_one(alloc: Global, operation: u64, arguments: &[u64]) -> Result<Vec<u6
             write(alloc, *mode, *word, *first, *place, list)
         }
         (4, [mode, place, capture @ ..]) => read(alloc, *mode, *place, capture),
-        (5, [own, partner, ..]) => one(alloc, page_resolve::resolve(*own, *partner).answer()),
+        (5, [own, partner, ..]) => one(alloc, answer_to(resolve(*own, *partner))),
         (6, events) => run(alloc, events),
         (7, [mode, readings @ ..]) => edges(alloc, *mode, readings),
         (8, pages) => messages(alloc, pages),

@@ -16,6 +16,7 @@ ghost use Rattle.port_step.specs.Runs.{run_of};
 ghost use Rattle.port_lent.specs.Lent.{step_on_record};
 ghost use Rattle.maststep.specs.NextPlace.{next_left};
 
+use answers::Answer;
 use line_captures::ReadOutcome;
 use port_state::PlainRecord;
 
@@ -33,7 +34,7 @@ pub extern "C" fn maststep_check(word: u64) -> u64
 pub extern "C" fn maststep_resolve(own: u64, partner: u64) -> u64
     ensures { result ≡ packed (resolve_says own partner) }
 {
-    page_resolve::resolve(own, partner).answer().packed()
+    page_resolve::answer_to(page_resolve::resolve(own, partner)).packed()
 }
 
 // How a gap counts in a mode, or 14.
@@ -110,7 +111,7 @@ pub extern "C" fn maststep_run(events: &[u64], answers: &mut [u64]) -> u64
     ensures says { result ≡ packed (run_of events.now answers.old).says }
     ensures leaves { answers.new ≡ (run_of events.now answers.old).list }
 {
-    port_lent::run(events, answers).packed()
+    Answer::from(port_lent::run(events, answers)).packed()
 }
 
 // The messages of a run of heard pages, three cells each: their number, or 25, 13, 24, 12.

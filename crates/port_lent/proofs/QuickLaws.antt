@@ -1,13 +1,11 @@
 -- What is told quickly is what is due: of an edge, of a tick, of a read.
-use Rattle.std.specs.Prelude.{if◌then◌else◌}
+use Rattle.std.specs.Prelude.{if◌then◌else◌, Some}
 use Prim.Native.Nat.{ℕ, ◌%◌, ◌^◌}
 use mathlib.Core.Path.{◌≡◌, refl, sym, ap, ap₂, ◌∙◌, subst}
 use mathlib.Core.Bool.{Bool, true, false, not, ◌&&◌, ◌||◌, and_comm, true≢false}
 use borrow.Author.Tests.{ne_eqb}
 use Rattle.answers.specs.Choices.{◌=?◌}
 use Rattle.answers.specs.Answers.{packed, nothing, register_value}
-use Rattle.answers.specs.Numbers.{refusal_of}
-use Rattle.page_resolve.specs.declared.resolving.Resolution.TheVariants.{Refused, Settled}
 use Rattle.page_word.specs.declared.thirds.Third.{Third}
 use Rattle.page_word.specs.Thirds.{third_of}
 use Rattle.line_mode.specs.declared.modes.LineMode.{LineMode}
@@ -21,11 +19,10 @@ use Rattle.line_reader.specs.Endings.{said_of_heard}
 use Rattle.line_reader.specs.Reading.{edge_of}
 use Rattle.port_state.specs.declared.State.{State}
 use Rattle.port_state.specs.declared.State.TheVariants.{Off, Break, Ability, Ack, Complete, CheckLink, Up}
-use Rattle.port_state.specs.declared.Outcome.TheVariants.{NoneYet, Resolved}
 use Rattle.port_state.specs.declared.Device.{Device}
 use Rattle.port_state.specs.declared.plain_record.PlainRecord.{PlainRecord}
 use Rattle.port_state.specs.declared.plain_record.ReaderNumbers.{ReaderNumbers}
-use Rattle.port_state.specs.Memory.{Due, due, is_talking}
+use Rattle.port_state.specs.Memory.{Due, due, Outcome, is_talking}
 use Rattle.port_state.specs.Rounds.{is_base}
 use Rattle.port_state.specs.Changes.{with_reader}
 use Rattle.port_state.specs.PlainRecords.{is_set, state_of, round_of, reader_of, reader_numbers, outcome_of, device_of}
@@ -35,7 +32,7 @@ use Rattle.port_registers.specs.declared.Register.TheVariants.{Part}
 use Rattle.port_registers.specs.Registers.{register_of, bank_of, read_due}
 use Rattle.port_hearing.specs.Edges.{hears, listened, edge_due}
 use Rattle.port_timing.specs.declared.profile.Profile.{Profile}
-use Rattle.port_timing.specs.Ticks.{run_out, low_speed, inhibit, inhibit_for, inhibit_of, holds_back, may_order, is_lost, orders, talks, tick_in, tick_due}
+use Rattle.port_timing.specs.Ticks.{run_out, low_speed, inhibit_of, holds_back, may_order, is_lost, orders, talks, tick_in, tick_due}
 use Rattle.port_step.specs.Steps.{step_over}
 use Rattle.port_step.specs.Runs.{event_of}
 use Rattle.port_lent.specs.declared.quick.Quick.{Quick}
@@ -120,22 +117,11 @@ pub break_idle : (plain : PlainRecord) (reading draw : ℕ) → plain.state ≡ 
 unfolding tick_due device_of state_of
 break_idle plain reading draw is runs = rw is (rw runs refl)
 
--- The inhibit time by the numbers of an outcome.
-inhibit_by : (kind ability : ℕ) (master : Bool) → inhibit_of (outcome_of kind ability master) ≡ (if kind =? 0x82 then inhibit_for ability else inhibit)
-unfolding outcome_of
-inhibit_by kind ability master = by (kind =? 0x82) (kind =? 0)
-  where
-    by : (settled none : Bool)
-        → inhibit_of (if settled then Resolved (Settled ability master) else if none then NoneYet else Resolved (Refused (refusal_of kind))) ≡ (if settled then inhibit_for ability else inhibit)
-    by true none = refl
-    by false true = refl
-    by false false = refl
-
-pub check_link_idle : (plain : PlainRecord) (reading draw : ℕ) → plain.state ≡ 5
-    → run_out (if plain.outcome =? 0x82 then inhibit_for plain.ability else inhibit) plain.timer reading ≡ false
+pub check_link_idle : (plain : PlainRecord) (reading draw : ℕ) (outcome : Outcome) → plain.state ≡ 5
+    → outcome ≡ outcome_of plain.outcome plain.ability (is_set plain.is_master) → run_out (inhibit_of outcome) plain.timer reading ≡ false
     → tick_due low_speed reading draw (device_of plain) ≡ due nothing (device_of plain)
 unfolding tick_due device_of state_of
-check_link_idle plain reading draw is runs = rw is (rw (inhibit_by plain.outcome plain.ability (is_set plain.is_master)) (rw runs refl))
+check_link_idle plain reading draw outcome is came runs = rw is (rw (sym came) (rw runs refl))
 
 -- A state that is neither.
 pub resting : (plain : PlainRecord) (reading draw : ℕ) → (plain.state ≡ 1 → ⊥) → (plain.state ≡ 5 → ⊥) → is_talking (state_of plain.state) ≡ false
@@ -201,7 +187,7 @@ module _ (plain : PlainRecord) (reading : ℕ) (state : State) (out takes : Bool
 
 -- A read of a register of a bank, by its number.
 pub bank_read : (bank : Bank) (third : Third) (n : ℕ) (quick : Quick) (register : ℕ) (plain : PlainRecord) → register ≡ n
-    → quick ≡ Kept (packed (register_value (third_of third (bank_of bank (device_of plain))))) → register_of n ≡ Part bank third → Fits quick plain (read_due register (device_of plain))
+    → quick ≡ Kept (packed (register_value (third_of third (bank_of bank (device_of plain))))) → register_of n ≡ Some (Part bank third) → Fits quick plain (read_due register (device_of plain))
 unfolding read_due
 bank_read bank third n quick register plain is told named =
     rw is (rw told (rw named (record { shown = record { answer = refl; device = refl } })))

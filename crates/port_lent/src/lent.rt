@@ -6,7 +6,7 @@ ghost use Rattle.port_state.specs.PlainRecords.{device_of, record_of};
 ghost use Rattle.port_lent.specs.Lent.{step_on_record, Tells};
 
 use crate::quick::{Quick, quick_of};
-use port_state::{Device, PlainRecord, device_of, record_of};
+use port_state::{Device, PlainRecord};
 use port_step::{event_of, step};
 
 // What an event brings: the answer as a number, and the record afterwards.
@@ -20,12 +20,10 @@ pub struct Told {
 pub(crate) fn told_by(plain: PlainRecord, clock: u64, argument: u64, kind: u64) -> Told
     ensures { Tells result (step_on_record kind clock argument plain) }
 {
-    let reply = step(device_of(plain), event_of(kind, clock, argument));
-    let answer = reply.answer;
-    let device = reply.device;
+    let reply = step(Device::from(plain), event_of(kind, clock, argument));
     Told {
-        answer: answer.packed(),
-        after: record_of(device),
+        answer: reply.answer.packed(),
+        after: PlainRecord::from(reply.device),
     }
 }
 
@@ -61,5 +59,5 @@ pub fn step_record(plain: &mut PlainRecord, kind: u64, clock: u64, argument: u64
 pub fn fresh_record() -> PlainRecord
     ensures { result ≡ record_of fresh_device }
 {
-    record_of(Device::fresh())
+    PlainRecord::from(Device::fresh())
 }

@@ -18,9 +18,7 @@ use line_mode::LineMode;
 use line_reader::{Ending, Heard, Reader, Step, drop_on, go_on, open_on};
 use page_word::{Third, third_of};
 use port_hearing::takes_edges;
-use port_state::{
-    PlainRecord, SETTLED, State, is_base, is_set, reader_numbers, reader_of, round_of, state_of,
-};
+use port_state::{Outcome, PlainRecord, ReaderNumbers, Round, State, is_base, is_set};
 use port_timing::{break_is_over, inhibit_is_over, is_held_back, mark_has_run, partner_is_lost};
 
 // What an event brings: something that is not told here; this answer, and the record as it was; this answer, and the reader's numbers.
@@ -61,7 +59,7 @@ fn moved(step: Step) -> Quick
     if is_good(heard) {
         return Quick::Slow;
     }
-    let numbers = reader_numbers(reader);
+    let numbers = ReaderNumbers::from(reader);
     Quick::Moved {
         answer: heard.answer().packed(),
         bits: numbers.bits,
@@ -77,7 +75,7 @@ fn page_is_due(plain: PlainRecord, reading: u32) -> bool
     ensures { result ≡ (run_out (if (device_of plain).link.talk.heard then low_speed.silent else low_speed.wait) (device_of plain).link.talk.mark reading && not (holds_back low_speed.mode.quiet (device_of plain).link.reader reading)) }
 {
     if mark_has_run(is_set(plain.is_heard), plain.mark, reading) {
-        let reader = reader_of(plain.reader, plain.position, plain.last, plain.bits);
+        let reader = Reader::from(plain);
         return !is_held_back(reader, reading);
     }
     false
@@ -90,7 +88,7 @@ fn talk_acts(plain: PlainRecord, reading: u32) -> bool
     if is_set(plain.is_out) {
         return false;
     }
-    if is_base(round_of(plain.round)) {
+    if is_base(Round::from(plain.round)) {
         return page_is_due(plain, reading);
     }
     if partner_is_lost(plain.good, reading) {
@@ -106,12 +104,7 @@ fn timer_acts(plain: PlainRecord, reading: u32) -> bool
     let state = plain.state;
     match state {
         1 => break_is_over(plain.timer, reading),
-        5 => inhibit_is_over(
-            plain.outcome == SETTLED,
-            plain.ability,
-            plain.timer,
-            reading,
-        ),
+        5 => inhibit_is_over(Outcome::from(plain), plain.timer, reading),
         _ => false,
     }
 }
@@ -127,7 +120,7 @@ fn is_talking(state: State) -> bool
 fn tick_acts(plain: PlainRecord, reading: u32) -> bool
     ensures { result ≡ false → (draw : ℕ) → tick_due low_speed reading draw (device_of plain) ≡ due nothing (device_of plain) }
 {
-    if is_talking(state_of(plain.state)) {
+    if is_talking(State::from(plain.state)) {
         return talk_acts(plain, reading);
     }
     timer_acts(plain, reading)
@@ -176,11 +169,11 @@ fn quick_read(plain: PlainRecord, register: u64) -> Quick
 fn quick_edge(plain: PlainRecord, reading: u32) -> Quick
     ensures { Fits result plain (edge_due lsm_mode reading (device_of plain)) }
 {
-    if takes_edges(state_of(plain.state), is_set(plain.is_out)) {
+    if takes_edges(State::from(plain.state), is_set(plain.is_out)) {
         if 155 <= plain.position {
             return Quick::Slow;
         }
-        return match reader_of(plain.reader, plain.position, plain.last, plain.bits) {
+        return match Reader::from(plain) {
             Reader::Fresh => moved(open_on(reading)),
             Reader::Open { at, last, bits } => moved(go_on(
                 LineMode::lsm(),
@@ -215,11 +208,11 @@ pub(crate) fn quick_of(plain: PlainRecord, kind: u64, clock: u64, argument: u64)
 fn quick_edge_in_run(plain: PlainRecord, reading: u32) -> Quick
     ensures { Fits result plain (edge_due lsm_mode reading (device_of plain)) }
 {
-    if takes_edges(state_of(plain.state), is_set(plain.is_out)) {
+    if takes_edges(State::from(plain.state), is_set(plain.is_out)) {
         if 155 <= plain.position {
             return Quick::Slow;
         }
-        return match reader_of(plain.reader, plain.position, plain.last, plain.bits) {
+        return match Reader::from(plain) {
             Reader::Fresh => moved(open_on(reading)),
             Reader::Open { at, last, bits } => moved(go_on(
                 LineMode::lsm(),

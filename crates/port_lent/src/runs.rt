@@ -1,12 +1,12 @@
 // A run of events as numbers, from a fresh device.
 ghost use Rattle.std.specs.Prelude.{◌≡◌, ◌+◌, ◌≤◌, length};
-ghost use Rattle.answers.specs.Answers.{said, put_at};
+ghost use Rattle.answers.specs.Answers.{said_count, put_at};
 ghost use Rattle.port_step.specs.Runs.{events_of, answers_to, run_of};
 ghost use Rattle.port_lent.specs.Quickly.{numbers_at};
 
 use crate::lent::{fresh_record, told_by};
 use crate::quick::{Quick, quick_in_run};
-use answers::{Answer, Refusal};
+use answers::Refusal;
 
 // An event as numbers.
 #[derive(Drop)]
@@ -70,14 +70,14 @@ fn answer_all(events: &[u64], answers: &mut [u64])
 
 // Takes events from a fresh device and answers each.
 #[tactic(auto, using(crate::proofs::RunLoop::too_few, crate::proofs::RunLoop::all_answered, crate::proofs::RunLoop::has_room))]
-pub fn run(events: &[u64], answers: &mut [u64]) -> Answer
-    ensures says { said result ≡ (run_of events.now answers.old).says }
+pub fn run(events: &[u64], answers: &mut [u64]) -> Result<usize, Refusal>
+    ensures says { said_count result ≡ (run_of events.now answers.old).says }
     ensures leaves { answers.new ≡ (run_of events.now answers.old).list }
 {
     let count = events.len() / 3;
     if answers.len() < count {
-        return Answer::Refused(Refusal::Room);
+        return Err(Refusal::Room);
     }
     answer_all(events, answers);
-    Answer::Number(count as u64)
+    Ok(count)
 }

@@ -4,6 +4,7 @@ use mathlib.Core.Path.{◌≡◌, refl, sym, ◌∙◌}
 use mathlib.Core.Bool.{Bool, true, false, cond}
 use native.Mathlib.Omega.{arith}
 use lib.Dec.{eqb, ltb}
+use Rattle.std.specs.Prelude.{Option, Some, None}
 use borrow.Author.Tests.{ltb-true, eqb-true, ne_eqb}
 use Rattle.page_word.specs.declared.thirds.Third.{Third}
 use Rattle.port_state.specs.declared.Flags.{Flags}
@@ -12,28 +13,28 @@ use Rattle.port_state.proofs.ClockAhead.{twin}
 use Rattle.port_registers.specs.declared.Bank.{Bank}
 use Rattle.port_registers.specs.declared.Bank.TheVariants.{Advertised, Partner, Transmit, Heard}
 use Rattle.port_registers.specs.declared.Register.{Register}
-use Rattle.port_registers.specs.declared.Register.TheVariants.{Control, Status, Part, Missing}
+use Rattle.port_registers.specs.declared.Register.TheVariants.{Control, Status, Part}
 use Rattle.port_registers.specs.Registers.{third_at, in_bank, register_of, bank_of}
 
-abbrev pub is_control : Register → Bool
-is_control Control = true
-is_control Status = false
-is_control (Part bank third) = false
-is_control Missing = false
+abbrev pub is_control : Option Register → Bool
+is_control (Some Control) = true
+is_control (Some Status) = false
+is_control (Some (Part bank third)) = false
+is_control None = false
 
-abbrev pub is_status : Register → Bool
-is_status Control = false
-is_status Status = true
-is_status (Part bank third) = false
-is_status Missing = false
+abbrev pub is_status : Option Register → Bool
+is_status (Some Control) = false
+is_status (Some Status) = true
+is_status (Some (Part bank third)) = false
+is_status None = false
 
 -- What holds of no register of a bank, and not of a missing one, does not hold of what stands in the banks.
-not_in_bank : (test : Register → Bool) (index : ℕ) (third : Third) → ((bank : Bank) → test (Part bank third) ≡ false) → test Missing ≡ false
+not_in_bank : (test : Option Register → Bool) (index : ℕ) (third : Third) → ((bank : Bank) → test (Some (Part bank third)) ≡ false) → test None ≡ false
     → test (in_bank index third) ≡ false
 not_in_bank test index third part missing = by (eqb index 0) (eqb index 1) (eqb index 2) (eqb index 3)
   where
     by : (a b c e : Bool)
-        → test (cond a (Part Advertised third) (cond b (Part Partner third) (cond c (Part Transmit third) (cond e (Part Heard third) Missing)))) ≡ false
+        → test (cond a (Some (Part Advertised third)) (cond b (Some (Part Partner third)) (cond c (Some (Part Transmit third)) (cond e (Some (Part Heard third)) None)))) ≡ false
     by true b c e = part Advertised
     by false true c e = part Partner
     by false false true e = part Transmit
@@ -42,9 +43,9 @@ not_in_bank test index third part missing = by (eqb index 0) (eqb index 1) (eqb 
 
 -- The tests of a register's number, each as it comes out.
 module _ (n : ℕ) where
-  abbrev by_tests : (below control status : Bool) → Register
+  abbrev by_tests : (below control status : Bool) → Option Register
   by_tests below control status =
-      cond below Missing (cond control Control (cond status Status (in_bank ((n - 514) / 3) (third_at ((n - 514) % 3)))))
+      cond below None (cond control (Some Control) (cond status (Some Status) (in_bank ((n - 514) / 3) (third_at ((n - 514) % 3)))))
 
   pub control_number : eqb n 512 ≡ is_control (register_of n)
   unfolding register_of

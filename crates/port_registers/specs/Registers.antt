@@ -1,5 +1,5 @@
 -- 01, "Registers (MMD 7)", and its amendments, "Registers".
-use Rattle.std.specs.Prelude.{ℕ, ◌+◌, ◌-◌, ◌/◌, ◌%◌, ◌^◌, Bool, true, false, ◌||◌, if◌then◌else◌}
+use Rattle.std.specs.Prelude.{ℕ, ◌+◌, ◌-◌, ◌/◌, ◌%◌, ◌^◌, Bool, true, false, ◌||◌, if◌then◌else◌, Option, Some, None}
 use Rattle.answers.specs.declared.Refusal.TheVariants as refusal
 use Rattle.answers.specs.Choices.{◌<?◌, ◌=?◌}
 use Rattle.answers.specs.Answers.{nothing, refused, register_value}
@@ -14,27 +14,27 @@ use Rattle.port_state.specs.Changes.{with_advertised, with_flags, with_latch, wi
 use Rattle.port_registers.specs.declared.Bank.{Bank}
 use Rattle.port_registers.specs.declared.Bank.TheVariants.{Advertised, Partner, Transmit, Heard}
 use Rattle.port_registers.specs.declared.Register.{Register}
-use Rattle.port_registers.specs.declared.Register.TheVariants.{Control, Status, Part, Missing}
+use Rattle.port_registers.specs.declared.Register.TheVariants.{Control, Status, Part}
 
 -- From 514 on the registers stand in banks of three, each of which holds a page: "D15-0, D31-16, D47-32".
 abbrev pub third_at : (index : ℕ) → Third
 third_at index = if index =? 0 then Low else if index =? 1 then Middle else High
 
 -- The banks, in order: "514-516: .. advertised. 517-519: the partner's"; "the registers 520-522 (own Next Page) and 523-525 (heard Next Page)".
-abbrev pub in_bank : (index : ℕ) → Third → Register
+abbrev pub in_bank : (index : ℕ) → Third → Option Register
 in_bank index third =
-    if index =? 0 then Part Advertised third
-    else if index =? 1 then Part Partner third
-    else if index =? 2 then Part Transmit third
-    else if index =? 3 then Part Heard third
-    else Missing
+    if index =? 0 then Some (Part Advertised third)
+    else if index =? 1 then Some (Part Partner third)
+    else if index =? 2 then Some (Part Transmit third)
+    else if index =? 3 then Some (Part Heard third)
+    else None
 
--- The register that a number names; row 10 of the refusals, Register, as amended: "10 Register means not 512-525". From 514 on the place in the banks is the number less 514.
-unfoldable pub register_of : (number : ℕ) → Register
+-- The register that a number names, if any; row 10 of the refusals, Register, as amended: "10 Register means not 512-525". From 514 on the place in the banks is the number less 514.
+unfoldable pub register_of : (number : ℕ) → Option Register
 register_of number =
-    if number <? 512 then Missing
-    else if number =? 512 then Control
-    else if number =? 513 then Status
+    if number <? 512 then None
+    else if number =? 512 then Some Control
+    else if number =? 513 then Some Status
     else in_bank ((number - 514) / 3) (third_at ((number - 514) % 3))
 
 -- The page that a bank holds.
@@ -64,11 +64,11 @@ abbrev pub status_read : Device → Device
 status_read d = with_flags false false (with_latch (is_up d.state) d)
 
 -- A read, by register. 520-522 are "read as written"; "A read of any of the six changes nothing."
-abbrev pub read_at : Register → Device → Due
-read_at Control d = due (register_value (control_value d)) d
-read_at Status d = due (register_value (status_value d)) (status_read d)
-read_at (Part bank third) d = due (register_value (third_of third (bank_of bank d))) d
-read_at Missing d = due (refused refusal.Register) d
+abbrev pub read_at : Option Register → Device → Due
+read_at (Some Control) d = due (register_value (control_value d)) d
+read_at (Some Status) d = due (register_value (status_value d)) (status_read d)
+read_at (Some (Part bank third)) d = due (register_value (third_of third (bank_of bank d))) d
+read_at None d = due (refused refusal.Register) d
 
 unfoldable pub read_due : (number : ℕ) → Device → Due
 read_due number d = read_at (register_of number) d
@@ -103,11 +103,11 @@ bank_written Transmit third value d = transmit_written third value d
 bank_written Heard third value d = d
 
 -- A write, by register. "Writes to read-only registers answer nothing and change nothing."
-abbrev pub write_at : Register → (value reading : ℕ) → Device → Due
-write_at Control value reading d = due nothing (commanded value reading d)
-write_at Status value reading d = due nothing d
-write_at (Part bank third) value reading d = due nothing (bank_written bank third value d)
-write_at Missing value reading d = due (refused refusal.Register) d
+abbrev pub write_at : Option Register → (value reading : ℕ) → Device → Due
+write_at (Some Control) value reading d = due nothing (commanded value reading d)
+write_at (Some Status) value reading d = due nothing d
+write_at (Some (Part bank third)) value reading d = due nothing (bank_written bank third value d)
+write_at None value reading d = due (refused refusal.Register) d
 
 unfoldable pub write_due : (number value reading : ℕ) → Device → Due
 write_due number value reading d = write_at (register_of number) value reading d

@@ -5,7 +5,8 @@ ghost use Rattle.port_step.specs.Steps.{step_due};
 use answers::Answer;
 use port_state::{Device, Reply, answered};
 
-// An event with its clock reading. The last is a number that names no event.
+// An event with its clock reading. The last is a number that names no event: the step takes it too, and answers nothing, as 01's "What is not named" has it, and promises speak
+// of it; an Option around the others would say no more.
 #[derive(Drop)]
 pub enum Event {
     Edge {

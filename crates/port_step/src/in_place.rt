@@ -12,9 +12,7 @@ pub fn step_in_place(device: &mut Device, event: Event) -> Answer
     ensures says { said result ≡ (step_due event device.old).says }
     ensures leaves { device.new ≡ (step_due event device.old).device }
 {
-    let before = *device;
-    let reply = step(before, event);
-    let after = reply.device;
-    *device = after;
+    let reply = step(*device, event);
+    *device = reply.device;
     reply.answer
 }

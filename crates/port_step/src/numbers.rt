@@ -10,36 +10,26 @@ pub fn event_of(kind: u64, clock: u64, argument: u64) -> Event
     ensures { result ≡ event_of kind clock argument }
 {
     let reading = (clock % 4294967296) as u32;
-    if kind == 0 {
-        return Event::Edge { reading: reading };
-    }
-    if kind == 1 {
-        return Event::Tick {
-            reading: reading,
+    match kind {
+        0 => Event::Edge { reading },
+        1 => Event::Tick {
+            reading,
             draw: argument,
-        };
-    }
-    if kind == 2 {
-        return Event::Sent { reading: reading };
-    }
-    if kind == 3 {
-        return Event::Report {
-            reading: reading,
+        },
+        2 => Event::Sent { reading },
+        3 => Event::Report {
+            reading,
             up: argument != 0,
-        };
-    }
-    if kind == 4 {
-        return Event::Read {
-            reading: reading,
+        },
+        4 => Event::Read {
+            reading,
             register: argument,
-        };
-    }
-    if kind == 5 {
-        return Event::Write {
-            reading: reading,
+        },
+        5 => Event::Write {
+            reading,
             register: argument / 65536,
             value: (argument % 65536) as u16,
-        };
+        },
+        _ => Event::Unnamed,
     }
-    Event::Unnamed
 }

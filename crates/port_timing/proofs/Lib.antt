@@ -1,2 +1,1 @@
-pub mod AtThree
 pub mod AloneT4

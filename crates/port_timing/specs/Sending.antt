@@ -1,21 +1,18 @@
 -- 01, "The negotiation (LSM)", and its amendments: the events "page sent" and "link report".
-use Rattle.std.specs.Prelude.{ℕ, ◌+◌, false, Bool, true, ◌||◌, List, if◌then◌else◌}
+use Rattle.std.specs.Prelude.{ℕ, ◌+◌, false, Bool, true, ◌||◌, List, if◌then◌else◌, Some, None, Ok, Err}
 use Rattle.answers.specs.declared.Refusal.TheVariants.{Turn}
 use Rattle.answers.specs.Choices.{◌≤?◌}
 use Rattle.answers.specs.Answers.{nothing, refused}
 use Rattle.page_resolve.specs.Resolving.{resolution_of, said_of}
 use Rattle.port_state.specs.declared.State.{State}
 use Rattle.port_state.specs.declared.State.TheVariants.{Off, Break, Ability, Ack, Complete, CheckLink, Up}
-use Rattle.port_state.specs.declared.Outcome.TheVariants.{Resolved, NoneYet}
 use Rattle.port_state.specs.declared.Device.{Device}
 use Rattle.page_word.specs.NextPages.{sets_next_page, null_message, next_after}
 use Rattle.port_state.specs.declared.rounds.Round.{Round}
 use Rattle.port_state.specs.declared.rounds.Round.TheVariants.{First, Later}
-use Rattle.port_state.specs.Memory.{Due, due, into_break}
+use Rattle.port_state.specs.Memory.{Outcome, Due, due, into_break}
 use Rattle.port_state.specs.Changes.{with_state, with_outcome, with_out, with_count, mark_waiting, with_timer, with_own_next, with_loaded, with_round}
 use Rattle.port_state.specs.Rounds.{by_round, own_in_round, held_in_round}
-use Rattle.page_resolve.specs.declared.resolving.Resolution.TheVariants.{Refused, Settled}
-use Rattle.port_state.specs.declared.Outcome.{Outcome}
 
 -- "Sent ends it and marks waiting."
 abbrev pub ended : (reading : ℕ) → Device → Device
@@ -25,7 +22,7 @@ ended reading d = mark_waiting reading (with_out false d)
 abbrev pub resolved : (order : List ℕ) (reading : ℕ) → Device → Due
 resolved order reading d =
     let resolution = resolution_of order d.link.talk.own d.link.talk.held in
-    due (said_of resolution) (with_state CheckLink (with_outcome (Resolved resolution) (with_timer reading d)))
+    due (said_of resolution) (with_state CheckLink (with_outcome (Some resolution) (with_timer reading d)))
 
 -- "round base becomes first"
 abbrev pub round_after : Round → Round
@@ -77,9 +74,9 @@ sent_due order reading d = sent_in d.state order reading d
 
 -- "With a rate resolved"
 abbrev pub has_rate : Outcome → Bool
-has_rate NoneYet = false
-has_rate (Resolved (Refused refusal)) = false
-has_rate (Resolved (Settled ability master)) = true
+has_rate None = false
+has_rate (Some (Err refusal)) = false
+has_rate (Some (Ok settled)) = true
 
 -- "Check-link: .. With a rate resolved, link up: to Up." "Up: .. Link down: to Break." Elsewhere a report is not named, or ignored.
 abbrev pub report_in : State → (up : Bool) (reading : ℕ) → Device → Device

@@ -1,13 +1,10 @@
 -- 01, "The negotiation (LSM)", and its amendments: the tick event, with its draw; the timers that it looks at, the pages that it orders.
-use Rattle.std.specs.Prelude.{ℕ, ◌+◌, ◌%◌, Bool, true, false, not, ◌&&◌, [], ◌∷◌, if◌then◌else◌}
+use Rattle.std.specs.Prelude.{ℕ, ◌+◌, ◌%◌, Bool, true, false, not, ◌&&◌, [], ◌∷◌, if◌then◌else◌, Some, None, Ok, Err}
 use Rattle.answers.specs.Choices.{◌≤?◌, ◌=?◌, ◌<?◌}
 use Rattle.page_resolve.specs.Roles.{is_forced, has_t4}
-use Rattle.page_resolve.specs.declared.resolving.Resolution.TheVariants.{Refused, Settled}
 use Rattle.line_mode.specs.Clock.{time_between}
 use Rattle.line_mode.specs.Modes.{lsm_mode}
 use Rattle.page_word.specs.Word.{among}
-use Rattle.port_state.specs.declared.Outcome.{Outcome}
-use Rattle.port_state.specs.declared.Outcome.TheVariants.{NoneYet, Resolved}
 use Rattle.port_timing.specs.declared.profile.Profile.{Profile}
 use Rattle.page_word.specs.Fields.{field_of, with_field}
 use Rattle.page_word.specs.declared.fields.Field.TheVariants.{Selector, EchoedNonce, Ack, NextPage, Nonce}
@@ -18,7 +15,7 @@ use Rattle.port_state.specs.declared.State.{State}
 use Rattle.port_state.specs.declared.State.TheVariants.{Off, Break, Ability, Ack, Complete, CheckLink, Up}
 use Rattle.port_state.specs.declared.Link.{Link}
 use Rattle.port_state.specs.declared.Device.{Device}
-use Rattle.port_state.specs.Memory.{Due, due, into_break}
+use Rattle.port_state.specs.Memory.{Outcome, Due, due, into_break}
 use Rattle.port_state.specs.Changes.{with_state, with_own, with_out, mark_waiting, with_reader}
 use Rattle.port_state.specs.Rounds.{is_base, own_in_round}
 
@@ -44,9 +41,9 @@ inhibit_for ability =
 
 -- By the kept outcome.
 abbrev pub inhibit_of : Outcome → ℕ
-inhibit_of NoneYet = inhibit
-inhibit_of (Resolved (Refused refusal)) = inhibit
-inhibit_of (Resolved (Settled ability master)) = inhibit_for ability
+inhibit_of None = inhibit
+inhibit_of (Some (Err refusal)) = inhibit
+inhibit_of (Some (Ok settled)) = inhibit_for settled.ability
 
 -- "tick (with a draw, taken modulo 32)", "T = draw (but T4 as advertised if M/S is 1)": T0-T3 are the draw's in both cases.
 unfoldable pub nonce_for : (advertised draw : ℕ) → ℕ

@@ -1,5 +1,5 @@
 // The pages that a device makes and orders.
-ghost use Rattle.std.specs.Prelude.{◌≡◌, if◌then◌else◌};
+ghost use Rattle.std.specs.Prelude.{◌≡◌};
 ghost use Rattle.port_timing.specs.Ticks.{nonce_for, own_page, echoing_page, acknowledging};
 
 use page_word::{Field, get, set};
@@ -16,25 +16,15 @@ fn nonce_for(advertised: u64, draw: u64) -> u64
     draw % 32
 }
 
-// A bit's value.
-fn one_if(test: bool) -> u64
-    ensures { result ≡ (if test then 1 else 0) }
-{
-    if test {
-        return 1;
-    }
-    0
-}
-
 // The own base page. It says that Next Pages are to follow if one is loaded.
-#[tactic(auto, unfolding(crate::specs::Ticks::own_page))]
+#[tactic(auto, using(port_state::proofs::YesOrNo::from_bool_one_if), unfolding(crate::specs::Ticks::own_page))]
 pub(crate) fn own_page(advertised: u64, draw: u64, loaded: bool) -> u64
     ensures { result ≡ own_page advertised draw loaded }
 {
     let selected = set(advertised, Field::Selector, 1);
     let unechoed = set(selected, Field::EchoedNonce, 0);
     let unanswered = set(unechoed, Field::Ack, 0);
-    let announcing = set(unanswered, Field::NextPage, one_if(loaded));
+    let announcing = set(unanswered, Field::NextPage, u64::from(loaded));
     set(announcing, Field::Nonce, nonce_for(advertised, draw))
 }
 
@@ -52,9 +42,7 @@ pub(crate) fn echoing_page(own: u64, held: u64) -> u64
 pub(crate) fn acknowledging(link: Link) -> u64
     ensures { result ≡ acknowledging link }
 {
-    let next = link.next;
-    let round = next.round;
-    if is_base(round) {
+    if is_base(link.next.round) {
         return echoing_page(link.talk.own, link.talk.held);
     }
     set(own_in_round(link), Field::Ack, 1)

@@ -3,7 +3,6 @@ ghost use Rattle.std.specs.Prelude.{◌≡◌};
 ghost use Rattle.port_timing.specs.Ticks.{run_out, low_speed, inhibit_for, inhibit_of};
 
 use line_mode::{LineMode, time_between};
-use page_resolve::Resolution;
 use port_state::Outcome;
 
 // The line mode's numbers, and those of the break timer, silent, wait and lost, in ns.
@@ -37,22 +36,17 @@ pub(crate) fn run_out(number: u32, start: u32, reading: u32) -> bool
 }
 
 // The inhibit timer's number for most rates, and without one.
-pub(crate) const INHIBIT: u32 = 97500000;
+const INHIBIT: u32 = 97500000;
 
 // The inhibit timer's number for a rate.
-pub(crate) fn inhibit_for(ability: u8) -> u32
+fn inhibit_for(ability: u8) -> u32
     ensures { result ≡ inhibit_for ability }
 {
-    if ability == 1 {
-        return 402000000;
+    match ability {
+        1 | 22 => 402000000,
+        9 => 3060000000,
+        _ => INHIBIT,
     }
-    if ability == 22 {
-        return 402000000;
-    }
-    if ability == 9 {
-        return 3060000000;
-    }
-    INHIBIT
 }
 
 // The inhibit timer's number for an outcome.
@@ -60,10 +54,7 @@ pub(crate) fn inhibit_of(outcome: Outcome) -> u32
     ensures { result ≡ inhibit_of outcome }
 {
     match outcome {
-        Outcome::NoneYet => INHIBIT,
-        Outcome::Resolved(resolution) => match resolution {
-            Resolution::Refused(refusal) => INHIBIT,
-            Resolution::Settled { ability, master } => inhibit_for(ability),
-        },
+        Some(Ok(settled)) => inhibit_for(settled.ability),
+        Some(Err(_)) | None => INHIBIT,
     }
 }

@@ -5,33 +5,21 @@ ghost use Rattle.port_state.specs.Memory.{Meets};
 ghost use Rattle.port_timing.specs.Sending.{has_rate, report_in, report_due};
 
 use answers::Answer;
-use page_resolve::Resolution;
 use port_state::{Device, Outcome, Reply, State, answered, enter_break, with_state};
 
 // Whether an outcome has a rate.
 fn has_rate(outcome: Outcome) -> bool
     ensures { result ≡ has_rate outcome }
 {
-    match outcome {
-        Outcome::NoneYet => false,
-        Outcome::Resolved(resolution) => match resolution {
-            Resolution::Refused(refusal) => false,
-            Resolution::Settled { ability, master } => true,
-        },
-    }
+    matches!(outcome, Some(Ok(_)))
 }
 
 // A report in Check-link. The latch of 7.513 stays as it was: only a read sets it.
 fn report_in_check_link(device: Device, up: bool, reading: u32) -> Device
     ensures { result ≡ report_in CheckLink up reading device }
 {
-    let link = device.link;
-    let outcome = link.outcome;
-    if up {
-        if has_rate(outcome) {
-            return with_state(device, State::Up);
-        }
-        return device;
+    if up && has_rate(device.link.outcome) {
+        return with_state(device, State::Up);
     }
     device
 }
@@ -51,14 +39,10 @@ fn report_in_up(device: Device, up: bool, reading: u32) -> Device
 pub fn report(device: Device, reading: u32, up: bool) -> Reply
     ensures { Meets result (report_due up reading device) }
 {
-    let state = device.state;
-    match state {
-        State::Off => answered(Answer::Nothing, device),
-        State::Break => answered(Answer::Nothing, device),
-        State::Ability => answered(Answer::Nothing, device),
-        State::Ack => answered(Answer::Nothing, device),
-        State::Complete => answered(Answer::Nothing, device),
-        State::CheckLink => answered(Answer::Nothing, report_in_check_link(device, up, reading)),
-        State::Up => answered(Answer::Nothing, report_in_up(device, up, reading)),
-    }
+    let after = match device.state {
+        State::Off | State::Break | State::Ability | State::Ack | State::Complete => device,
+        State::CheckLink => report_in_check_link(device, up, reading),
+        State::Up => report_in_up(device, up, reading),
+    };
+    answered(Answer::Nothing, after)
 }

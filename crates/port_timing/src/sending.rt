@@ -1,17 +1,15 @@
 // A page has been sent.
 ghost use Rattle.std.specs.Prelude.{◌≡◌};
-ghost use Rattle.answers.specs.Answers.{nothing};
 ghost use Rattle.page_resolve.specs.Rates.{rate_order};
-ghost use Rattle.port_state.specs.Memory.{Meets, due};
-ghost use Rattle.port_timing.specs.Sending.{ended, resolved, round_after, goes_on, next_or_null, decided, counted, if_out, sent_due};
+ghost use Rattle.port_state.specs.Memory.{Meets};
+ghost use Rattle.port_timing.specs.Sending.{ended, resolved, round_after, goes_on, next_or_null, decided, counted, sent_due};
 
 use answers::{Answer, Refusal};
-use page_resolve::resolve;
+use page_resolve::{answer_to, resolve};
 use page_word::{NULL_MESSAGE, next_after, sets_next_page};
 use port_state::{
-    Device, Outcome, Reply, Round, State, answered, held_in_round, own_in_round, with_count,
-    with_loaded, with_mark, with_out, with_outcome, with_own_next, with_round, with_state,
-    with_timer,
+    Device, Reply, Round, State, answered, held_in_round, own_in_round, with_count, with_loaded,
+    with_mark, with_out, with_outcome, with_own_next, with_round, with_state, with_timer,
 };
 
 // The page is no longer out, and the mark is "waiting", now.
@@ -27,8 +25,8 @@ fn settle(device: Device, reading: u32) -> Reply
 {
     let resolution = resolve(device.link.talk.own, device.link.talk.held);
     let started = with_timer(device, reading);
-    let kept = with_outcome(started, Outcome::Resolved(resolution));
-    answered(resolution.answer(), with_state(kept, State::CheckLink))
+    let kept = with_outcome(started, Some(resolution));
+    answered(answer_to(resolution), with_state(kept, State::CheckLink))
 }
 
 // The round in which the next own page is sent.
@@ -36,8 +34,7 @@ fn round_after(round: Round) -> Round
     ensures { result ≡ round_after round }
 {
     match round {
-        Round::Base => Round::First,
-        Round::First => Round::First,
+        Round::Base | Round::First => Round::First,
         Round::Later => Round::Later,
     }
 }
@@ -46,11 +43,11 @@ fn round_after(round: Round) -> Round
 fn go_on(device: Device, word: u64) -> Device
     ensures { result ≡ goes_on word device }
 {
-    let link = device.link;
-    let next = link.next;
-    let round = next.round;
-    let owning = with_own_next(device, next_after(own_in_round(link), word));
-    with_state(with_round(owning, round_after(round)), State::Ability)
+    let owning = with_own_next(device, next_after(own_in_round(device.link), word));
+    with_state(
+        with_round(owning, round_after(device.link.next.round)),
+        State::Ability,
+    )
 }
 
 // One end has more to send. The loaded page is next; an end that has said all sends the Null message; one that has announced a page and has none
@@ -59,11 +56,10 @@ fn go_on(device: Device, word: u64) -> Device
 fn next_or_null(device: Device) -> Device
     ensures { result ≡ next_or_null device }
 {
-    let link = device.link;
     if device.link.next.loaded {
         return go_on(with_loaded(device, false), device.link.next.transmit);
     }
-    if sets_next_page(own_in_round(link)) {
+    if sets_next_page(own_in_round(device.link)) {
         return device;
     }
     go_on(device, NULL_MESSAGE)
@@ -74,11 +70,7 @@ fn next_or_null(device: Device) -> Device
 fn decide(device: Device, reading: u32) -> Reply
     ensures { Meets result (decided rate_order reading device) }
 {
-    let link = device.link;
-    if sets_next_page(own_in_round(link)) {
-        return answered(Answer::Nothing, next_or_null(device));
-    }
-    if sets_next_page(held_in_round(link)) {
+    if sets_next_page(own_in_round(device.link)) || sets_next_page(held_in_round(device.link)) {
         return answered(Answer::Nothing, next_or_null(device));
     }
     settle(device, reading)
@@ -92,28 +84,10 @@ fn count(device: Device, reading: u32) -> Reply
     if 2 <= device.link.talk.count {
         return decide(with_count(device, 3), reading);
     }
-    let one_more = device.link.talk.count + 1;
-    answered(Answer::Nothing, with_count(device, one_more))
-}
-
-// Sent in a state that only ends the page.
-fn end_if_out(device: Device, reading: u32) -> Reply
-    ensures { Meets result (if_out device (due nothing (ended reading device))) }
-{
-    if device.link.talk.out {
-        return answered(Answer::Nothing, end(device, reading));
-    }
-    answered(Answer::Refused(Refusal::Turn), device)
-}
-
-// Sent in Complete.
-fn count_if_out(device: Device, reading: u32) -> Reply
-    ensures { Meets result (if_out device (counted rate_order reading (ended reading device))) }
-{
-    if device.link.talk.out {
-        return count(end(device, reading), reading);
-    }
-    answered(Answer::Refused(Refusal::Turn), device)
+    answered(
+        Answer::Nothing,
+        with_count(device, device.link.talk.count + 1),
+    )
 }
 
 // The event "page sent".
@@ -121,14 +95,14 @@ fn count_if_out(device: Device, reading: u32) -> Reply
 pub fn sent(device: Device, reading: u32) -> Reply
     ensures { Meets result (sent_due rate_order reading device) }
 {
-    let state = device.state;
-    match state {
-        State::Off => answered(Answer::Refused(Refusal::Turn), device),
-        State::Break => answered(Answer::Refused(Refusal::Turn), device),
-        State::Ability => end_if_out(device, reading),
-        State::Ack => end_if_out(device, reading),
-        State::Complete => count_if_out(device, reading),
-        State::CheckLink => end_if_out(device, reading),
-        State::Up => end_if_out(device, reading),
+    if !device.link.talk.out {
+        return answered(Answer::Refused(Refusal::Turn), device);
+    }
+    match device.state {
+        State::Off | State::Break => answered(Answer::Refused(Refusal::Turn), device),
+        State::Complete => count(end(device, reading), reading),
+        State::Ability | State::Ack | State::CheckLink | State::Up => {
+            answered(Answer::Nothing, end(device, reading))
+        }
     }
 }

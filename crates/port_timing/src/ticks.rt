@@ -29,9 +29,8 @@ pub(crate) fn holds_back(quiet: u32, reader: Reader, reading: u32) -> bool
     ensures { result ≡ holds_back quiet reader reading }
 {
     match reader {
-        Reader::Fresh => false,
-        Reader::Open { at, last, bits } => time_between(reading, last) < quiet,
-        Reader::Dropping { last } => false,
+        Reader::Open { last, .. } => time_between(reading, last) < quiet,
+        Reader::Fresh | Reader::Dropping { .. } => false,
     }
 }
 
@@ -40,18 +39,14 @@ pub(crate) fn holds_back(quiet: u32, reader: Reader, reading: u32) -> bool
 fn may_order(profile: Profile, device: Device, reading: u32) -> bool
     ensures { result ≡ may_order profile reading device.link }
 {
-    if device.link.talk.out {
-        return false;
-    }
-    let link = device.link;
-    let reader = link.reader;
-    if holds_back(profile.mode.quiet, reader, reading) {
-        return false;
-    }
-    if device.link.talk.heard {
-        return run_out(profile.silent, device.link.talk.mark, reading);
-    }
-    run_out(profile.wait, device.link.talk.mark, reading)
+    let pause = if device.link.talk.heard {
+        profile.silent
+    } else {
+        profile.wait
+    };
+    !device.link.talk.out
+        && !holds_back(profile.mode.quiet, device.link.reader, reading)
+        && run_out(pause, device.link.talk.mark, reading)
 }
 
 // Orders a page, if one may be.
@@ -70,16 +65,10 @@ fn order(profile: Profile, device: Device, word: u64, reading: u32) -> Reply
 fn is_lost(profile: Profile, device: Device, reading: u32) -> bool
     ensures { result ≡ is_lost profile reading device.link }
 {
-    let link = device.link;
-    let next = link.next;
-    let round = next.round;
-    if is_base(round) {
+    if is_base(device.link.next.round) {
         return false;
     }
-    if device.link.talk.out {
-        return false;
-    }
-    run_out(profile.lost, device.link.next.good, reading)
+    !device.link.talk.out && run_out(profile.lost, device.link.next.good, reading)
 }
 
 // A tick in Ability, Ack or Complete: the link is given up, or the page ordered if it may be.
@@ -107,9 +96,11 @@ fn tick_in_break(profile: Profile, device: Device, reading: u32, draw: u64) -> R
 fn tick_in_check_link(profile: Profile, device: Device, reading: u32, draw: u64) -> Reply
     ensures { Meets result (tick_in CheckLink profile reading draw device) }
 {
-    let link = device.link;
-    let outcome = link.outcome;
-    if run_out(inhibit_of(outcome), device.link.talk.timer, reading) {
+    if run_out(
+        inhibit_of(device.link.outcome),
+        device.link.talk.timer,
+        reading,
+    ) {
         return answered(Answer::Nothing, enter_break(device, reading));
     }
     answered(Answer::Nothing, device)
@@ -120,16 +111,12 @@ fn tick_in_check_link(profile: Profile, device: Device, reading: u32, draw: u64)
 fn tick_by(profile: Profile, device: Device, reading: u32, draw: u64) -> Reply
     ensures { Meets result (tick_due profile reading draw device) }
 {
-    let state = device.state;
-    let link = device.link;
-    match state {
-        State::Off => answered(Answer::Nothing, device),
+    match device.state {
+        State::Off | State::Up => answered(Answer::Nothing, device),
         State::Break => tick_in_break(profile, device, reading, draw),
-        State::Ability => talk(profile, device, own_in_round(link), reading),
-        State::Ack => talk(profile, device, acknowledging(link), reading),
-        State::Complete => talk(profile, device, acknowledging(link), reading),
+        State::Ability => talk(profile, device, own_in_round(device.link), reading),
+        State::Ack | State::Complete => talk(profile, device, acknowledging(device.link), reading),
         State::CheckLink => tick_in_check_link(profile, device, reading, draw),
-        State::Up => answered(Answer::Nothing, device),
     }
 }
 

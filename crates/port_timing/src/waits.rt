@@ -1,10 +1,11 @@
 // What a tick looks at, by itself: whether a wait is over at low speed. A tick that finds none over does nothing.
 ghost use Rattle.std.specs.Prelude.{◌≡◌, if◌then◌else◌};
-ghost use Rattle.port_timing.specs.Ticks.{run_out, low_speed, inhibit, inhibit_for, holds_back};
+ghost use Rattle.port_timing.specs.Ticks.{run_out, low_speed, inhibit_of, holds_back};
 
-use crate::profile::{INHIBIT, inhibit_for, low_speed, run_out};
+use crate::profile::{inhibit_of, low_speed, run_out};
 use crate::ticks::holds_back;
 use line_reader::Reader;
+use port_state::Outcome;
 
 // Break.
 pub fn break_is_over(timer: u32, reading: u32) -> bool
@@ -24,10 +25,12 @@ pub fn partner_is_lost(good: u32, reading: u32) -> bool
 pub fn mark_has_run(heard: bool, mark: u32, reading: u32) -> bool
     ensures { result ≡ run_out (if heard then low_speed.silent else low_speed.wait) mark reading }
 {
-    if heard {
-        return run_out(low_speed().silent, mark, reading);
-    }
-    run_out(low_speed().wait, mark, reading)
+    let pause = if heard {
+        low_speed().silent
+    } else {
+        low_speed().wait
+    };
+    run_out(pause, mark, reading)
 }
 
 // The wait for the end of an attempt that holds an order back.
@@ -38,11 +41,8 @@ pub fn is_held_back(reader: Reader, reading: u32) -> bool
 }
 
 // The inhibit time, with a rate or without one.
-pub fn inhibit_is_over(settled: bool, ability: u8, timer: u32, reading: u32) -> bool
-    ensures { result ≡ run_out (if settled then inhibit_for ability else inhibit) timer reading }
+pub fn inhibit_is_over(outcome: Outcome, timer: u32, reading: u32) -> bool
+    ensures { result ≡ run_out (inhibit_of outcome) timer reading }
 {
-    if settled {
-        return run_out(inhibit_for(ability), timer, reading);
-    }
-    run_out(INHIBIT, timer, reading)
+    run_out(inhibit_of(outcome), timer, reading)
 }

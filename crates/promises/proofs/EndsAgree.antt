@@ -2,14 +2,13 @@
 use Prim.Native.Nat.{ℕ}
 use mathlib.Core.Path.{◌≡◌, ap, ap₂, ◌∙◌}
 use mathlib.Core.Bool.{Bool, ◌&&◌}
-use Rattle.page_resolve.specs.declared.resolving.Resolution.TheVariants.{Settled}
 use Rattle.page_resolve.specs.Rates.{rate_order}
-use Rattle.page_resolve.specs.Resolving.{resolution_of}
+use Rattle.page_resolve.specs.Resolving.{resolution_of, rate_and_role}
 use Rattle.page_resolve.proofs.FirstInOrder.{settled_first, none_only}
 use Rattle.page_resolve.proofs.Exchange.{opposite, exchanged}
 use Rattle.promises.specs.BothEnds.{FirstCommon, BothEnds}
 
-first_common : (own partner ability : ℕ) (master : Bool) → resolution_of rate_order own partner ≡ Settled ability master → FirstCommon own partner ability
+first_common : (own partner ability : ℕ) (master : Bool) → resolution_of rate_order own partner ≡ rate_and_role ability master → FirstCommon own partner ability
 first_common own partner ability master e =
     let f = settled_first rate_order own partner ability master e in
     record {

@@ -1,5 +1,6 @@
 -- Every way into Break is one: whatever the device was, it is the entered device at the event's reading. An event that merely leaves a device in
 -- Break is none.
+use Rattle.std.specs.Prelude.{Option, Some, None}
 use Prim.Native.Nat.{ℕ, ◌+◌}
 use mathlib.Core.Path.{◌≡◌, refl, sym, ap, ◌∙◌, subst}
 use mathlib.Core.Bool.{Bool, true, false, cond, not, ◌&&◌, ◌||◌, false≢true}
@@ -21,7 +22,7 @@ use Rattle.port_state.specs.Changes.{with_state, with_reader}
 use Rattle.page_word.specs.Word.{has_bit}
 use Rattle.port_registers.specs.declared.Bank.TheVariants as bank
 use Rattle.port_registers.specs.declared.Register.{Register}
-use Rattle.port_registers.specs.declared.Register.TheVariants.{Control, Status, Part, Missing}
+use Rattle.port_registers.specs.declared.Register.TheVariants.{Control, Status, Part}
 use Rattle.port_registers.specs.Registers.{register_of, read_at, read_due, commanded, write_at, write_due}
 use Rattle.port_registers.proofs.RegisterNumbers.{is_control, control_number}
 use Rattle.line_mode.specs.declared.modes.LineMode.{LineMode}
@@ -158,11 +159,11 @@ module _ (reading : ℕ) where
   report_entry up d = report_in_law d.state up d
 
   -- Reads: none.
-  read_at_law : (r : Register) (d : Device) → Entry false reading d (read_at r d)
-  read_at_law Control d = stays refl
-  read_at_law Status d = stays refl
-  read_at_law (Part bank third) d = stays refl
-  read_at_law Missing d = stays refl
+  read_at_law : (r : Option Register) (d : Device) → Entry false reading d (read_at r d)
+  read_at_law (Some Control) d = stays refl
+  read_at_law (Some Status) d = stays refl
+  read_at_law (Some (Part bank third)) d = stays refl
+  read_at_law None d = stays refl
 
   read_entry : (n : ℕ) (d : Device) → Entry false reading d (read_due n d)
   unfolding read_due
@@ -175,16 +176,16 @@ module _ (reading : ℕ) where
   command_entry true false d = entry_if (is_off d.state) it (stays refl)
   command_entry false restart d = elsewhere refl
 
-  write_at_law : (r : Register) (value : ℕ) (d : Device)
+  write_at_law : (r : Option Register) (value : ℕ) (d : Device)
       → Entry (is_control r && (has_bit value 12 && has_bit value 9)) reading d (write_at r value reading d)
   unfolding commanded
-  write_at_law Control value d = entry_if (has_bit value 15) (elsewhere refl) (command_entry (has_bit value 12) (has_bit value 9) d)
-  write_at_law Status value d = stays refl
-  write_at_law (Part bank.Advertised third) value d = stays refl
-  write_at_law (Part bank.Partner third) value d = stays refl
-  write_at_law (Part bank.Transmit third) value d = stays refl
-  write_at_law (Part bank.Heard third) value d = stays refl
-  write_at_law Missing value d = stays refl
+  write_at_law (Some Control) value d = entry_if (has_bit value 15) (elsewhere refl) (command_entry (has_bit value 12) (has_bit value 9) d)
+  write_at_law (Some Status) value d = stays refl
+  write_at_law (Some (Part bank.Advertised third)) value d = stays refl
+  write_at_law (Some (Part bank.Partner third)) value d = stays refl
+  write_at_law (Some (Part bank.Transmit third)) value d = stays refl
+  write_at_law (Some (Part bank.Heard third)) value d = stays refl
+  write_at_law None value d = stays refl
 
   write_entry : (n value : ℕ) (d : Device) → Entry (eqb n 512 && (has_bit value 12 && has_bit value 9)) reading d (write_due n value reading d)
   unfolding write_due

@@ -1,4 +1,5 @@
 -- Facts of records that calls have made, from what every event keeps.
+use Rattle.std.specs.Prelude.{Some, None}
 use Prim.Native.Nat.{ℕ, ◌≤◌}
 use mathlib.Core.Path.{◌≡◌, refl, sym, ap, ap₂, subst}
 use mathlib.Core.Bool.{true, false, ◌||◌, false≢true}
@@ -10,10 +11,8 @@ use Rattle.port_state.specs.declared.State.TheVariants.{Off, Break, Ability, Ack
 use Rattle.port_state.specs.declared.rounds.Round.{Round}
 use Rattle.port_state.specs.declared.rounds.Round.TheVariants.{Base, First, Later}
 use Rattle.port_state.specs.declared.Talk.{Talk}
-use Rattle.port_state.specs.declared.Outcome.{Outcome}
-use Rattle.port_state.specs.declared.Outcome.TheVariants.{NoneYet, Resolved}
 use Rattle.port_state.specs.declared.Device.{Device}
-use Rattle.port_state.specs.Memory.{fresh_device, is_talking}
+use Rattle.port_state.specs.Memory.{fresh_device, is_talking, Outcome}
 use Rattle.port_state.specs.Rounds.{is_base, is_first}
 use Rattle.port_timing.specs.Sending.{has_rate}
 use Rattle.port_step.specs.declared.events.Event.{Event}
@@ -72,8 +71,8 @@ module _ (r : Round) (t : Talk) where
   none_out Up talks h = talks
 
 with_rate : (o : Outcome) → has_rate o ≡ true → is_resolved o ≡ true
-with_rate NoneYet h = h
-with_rate (Resolved resolution) h = refl
+with_rate None h = h
+with_rate (Some resolution) h = refl
 
 outcome : (s : State) (o : Outcome) → Comes s o → is_resolved o ≡ has_outcome s
 outcome Off o comes = ap is_resolved comes

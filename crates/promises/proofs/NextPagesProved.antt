@@ -2,12 +2,11 @@
 use Prim.Native.Nat.{ℕ}
 use mathlib.Core.Path.{◌≡◌, refl, sym, ap, ap₂, ◌∙◌}
 use mathlib.Core.Bool.{Bool, true, false, cond, ◌&&◌, ◌||◌, false≢true, true≢false}
-use mathlib.Core.List.{List, [], ◌∷◌}
+use mathlib.Core.List.{List}
 use native.Mathlib.Omega.{arith}
-use lib.Dec.{eqb}
 use Rattle.answers.specs.Answers.{Said, nothing, page_ordered}
 use Rattle.page_word.specs.Word.{among}
-use Rattle.page_word.specs.Fields.{field_of, with_field}
+use Rattle.page_word.specs.Fields.{with_field}
 use Rattle.page_word.specs.declared.fields.Field.TheVariants as field
 use Rattle.page_word.specs.NextPages.{toggle_of, same_toggle, inverse_toggle}
 use Rattle.page_word.proofs.FieldLaws.{kept_below, kept_above}

@@ -1,5 +1,5 @@
 -- The worked links with Next Pages, computed from the definitions.
-use mathlib.Core.Path.{◌≡◌, refl, sym, ◌∙◌}
+use mathlib.Core.Path.{refl}
 use mathlib.Core.Bool.{xor}
 use Rattle.page_word.specs.Fields.{part, with_part}
 use Rattle.page_check_bits.specs.CheckBits.{remainder, check_list, check_bits, agrees}

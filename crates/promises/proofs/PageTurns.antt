@@ -1,5 +1,6 @@
 -- What an event does to the pages of a link: it leaves them, holds a base page or a Next Page, goes on to the next own page, or ends the talk. And to 517-519 and 523-525: it
 -- forgets them, leaves them, or loads one of them with the page that it answers, which has Ack 1.
+use Rattle.std.specs.Prelude.{Option, Some, None}
 use Prim.Native.Nat.{ℕ, ◌+◌, ◌%◌, ◌^◌, ◌<◌}
 use mathlib.Core.Path.{◌≡◌, refl, sym, ap, ◌∙◌}
 use mathlib.Core.Bool.{Bool, true, false, cond, not, ◌&&◌, ◌||◌, false≢true}
@@ -30,7 +31,7 @@ use Rattle.port_state.specs.Changes.{with_state, with_reader}
 use Rattle.port_state.specs.Rounds.{by_round, is_base, own_in_round, held_in_round}
 use Rattle.port_registers.specs.declared.Bank.TheVariants as bank
 use Rattle.port_registers.specs.declared.Register.{Register}
-use Rattle.port_registers.specs.declared.Register.TheVariants.{Control, Status, Part, Missing}
+use Rattle.port_registers.specs.declared.Register.TheVariants.{Control, Status, Part}
 use Rattle.port_registers.specs.Registers.{register_of, read_at, read_due, enters_break_by, commanded, write_at, write_due}
 use Rattle.port_timing.specs.declared.profile.Profile.{Profile}
 use Rattle.port_timing.specs.Ticks.{run_out, inhibit_of, may_order, orders, is_lost, talks, tick_in, tick_due}
@@ -256,29 +257,29 @@ module _ (reading : ℕ) where
   report_turns up d = report_in_law d.state up d
 
   -- Registers.
-  read_at_law : (r : Register) (d : Device) → Turns d (read_at r d)
-  read_at_law Control d = keeps (not_turning d.state) (λ h. h) refl refl (same_base refl refl) refl refl
-  read_at_law Status d = keeps (not_turning d.state) (λ h. h) refl refl (same_base refl refl) refl refl
-  read_at_law (Part bank third) d = keeps (not_turning d.state) (λ h. h) refl refl (same_base refl refl) refl refl
-  read_at_law Missing d = keeps (not_turning d.state) (λ h. h) refl refl (same_base refl refl) refl refl
+  read_at_law : (r : Option Register) (d : Device) → Turns d (read_at r d)
+  read_at_law (Some Control) d = keeps (not_turning d.state) (λ h. h) refl refl (same_base refl refl) refl refl
+  read_at_law (Some Status) d = keeps (not_turning d.state) (λ h. h) refl refl (same_base refl refl) refl refl
+  read_at_law (Some (Part bank third)) d = keeps (not_turning d.state) (λ h. h) refl refl (same_base refl refl) refl refl
+  read_at_law None d = keeps (not_turning d.state) (λ h. h) refl refl (same_base refl refl) refl refl
 
   read_turns : (n : ℕ) (d : Device) → Turns d (read_due n d)
   unfolding read_due
   read_turns n d = read_at_law (register_of n) d
 
-  write_at_law : (r : Register) (value : ℕ) (d : Device) → Turns d (write_at r value reading d)
+  write_at_law : (r : Option Register) (value : ℕ) (d : Device) → Turns d (write_at r value reading d)
   unfolding commanded
-  write_at_law Control value d =
+  write_at_law (Some Control) value d =
       either_device (has_bit value 15) (forgets (and_false (is_talking d.state)) refl refl)
       (either_device (has_bit value 12)
       (either_device (enters_break_by value d.state) (forgets (and_false (is_talking d.state)) refl refl) (keeps (not_turning d.state) (λ h. h) refl refl (same_base refl refl) refl refl))
       (forgets (and_false (is_talking d.state)) refl refl))
-  write_at_law Status value d = keeps (not_turning d.state) (λ h. h) refl refl (same_base refl refl) refl refl
-  write_at_law (Part bank.Advertised third) value d = keeps (not_turning d.state) (λ h. h) refl refl (same_base refl refl) refl refl
-  write_at_law (Part bank.Partner third) value d = keeps (not_turning d.state) (λ h. h) refl refl (same_base refl refl) refl refl
-  write_at_law (Part bank.Transmit third) value d = keeps (not_turning d.state) (λ h. h) refl refl (same_base refl refl) refl refl
-  write_at_law (Part bank.Heard third) value d = keeps (not_turning d.state) (λ h. h) refl refl (same_base refl refl) refl refl
-  write_at_law Missing value d = keeps (not_turning d.state) (λ h. h) refl refl (same_base refl refl) refl refl
+  write_at_law (Some Status) value d = keeps (not_turning d.state) (λ h. h) refl refl (same_base refl refl) refl refl
+  write_at_law (Some (Part bank.Advertised third)) value d = keeps (not_turning d.state) (λ h. h) refl refl (same_base refl refl) refl refl
+  write_at_law (Some (Part bank.Partner third)) value d = keeps (not_turning d.state) (λ h. h) refl refl (same_base refl refl) refl refl
+  write_at_law (Some (Part bank.Transmit third)) value d = keeps (not_turning d.state) (λ h. h) refl refl (same_base refl refl) refl refl
+  write_at_law (Some (Part bank.Heard third)) value d = keeps (not_turning d.state) (λ h. h) refl refl (same_base refl refl) refl refl
+  write_at_law None value d = keeps (not_turning d.state) (λ h. h) refl refl (same_base refl refl) refl refl
 
   write_turns : (n value : ℕ) (d : Device) → Turns d (write_due n value reading d)
   unfolding write_due

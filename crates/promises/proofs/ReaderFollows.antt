@@ -1,5 +1,6 @@
 -- The reader of a device after any events: along each event it is made fresh, or has taken the edges that were taken. So in Ability, Ack and Complete it is what the
 -- edges taken since Break was left have made of a fresh one.
+use Rattle.std.specs.Prelude.{Option, Some, None}
 use Prim.Native.Nat.{ℕ, zero, suc, ◌+◌}
 use mathlib.Core.Path.{◌≡◌, refl, sym, ap, ap₂, ◌∙◌}
 use mathlib.Core.Bool.{Bool, true, false, cond, not, ◌&&◌, ◌||◌, false≢true}
@@ -33,7 +34,7 @@ use Rattle.port_state.specs.Memory.{Due, due, is_talking, fresh_device}
 use Rattle.port_state.specs.Changes.{with_state, with_reader}
 use Rattle.port_registers.specs.declared.Bank.TheVariants as bank
 use Rattle.port_registers.specs.declared.Register.{Register}
-use Rattle.port_registers.specs.declared.Register.TheVariants.{Control, Status, Part, Missing}
+use Rattle.port_registers.specs.declared.Register.TheVariants.{Control, Status, Part}
 use Rattle.port_registers.specs.Registers.{register_of, read_at, read_due, enters_break_by, commanded, write_at, write_due}
 use Rattle.port_timing.specs.Ticks.{low_speed, run_out, inhibit_of, may_order, orders, is_lost, talks, tick_in, tick_due}
 use Rattle.port_timing.specs.Sending.{next_or_null, decided, counted, sent_in, sent_due, has_rate, report_in, report_due}
@@ -177,28 +178,28 @@ unfolding report_due
 report_reads up reading d = report_in_law d.state up reading d
 
 -- Registers: a write to 512.
-read_at_law : (r : Register) (d : Device) → Reads [] d (read_at r d)
-read_at_law Control d = goes refl refl
-read_at_law Status d = goes refl refl
-read_at_law (Part bank third) d = goes refl refl
-read_at_law Missing d = goes refl refl
+read_at_law : (r : Option Register) (d : Device) → Reads [] d (read_at r d)
+read_at_law (Some Control) d = goes refl refl
+read_at_law (Some Status) d = goes refl refl
+read_at_law (Some (Part bank third)) d = goes refl refl
+read_at_law None d = goes refl refl
 
 read_reads : (n : ℕ) (d : Device) → Reads [] d (read_due n d)
 unfolding read_due
 read_reads n d = read_at_law (register_of n) d
 
-write_at_law : (r : Register) (value reading : ℕ) (d : Device) → Reads [] d (write_at r value reading d)
+write_at_law : (r : Option Register) (value reading : ℕ) (d : Device) → Reads [] d (write_at r value reading d)
 unfolding commanded
-write_at_law Control value reading d =
+write_at_law (Some Control) value reading d =
     either_device (has_bit value 15) (fresh_then (and_false (is_talking d.state)) refl)
     (either_device (has_bit value 12) (either_device (enters_break_by value d.state) (fresh_then (and_false (is_talking d.state)) refl) (goes refl refl))
     (fresh_then (and_false (is_talking d.state)) refl))
-write_at_law Status value reading d = goes refl refl
-write_at_law (Part bank.Advertised third) value reading d = goes refl refl
-write_at_law (Part bank.Partner third) value reading d = goes refl refl
-write_at_law (Part bank.Transmit third) value reading d = goes refl refl
-write_at_law (Part bank.Heard third) value reading d = goes refl refl
-write_at_law Missing value reading d = goes refl refl
+write_at_law (Some Status) value reading d = goes refl refl
+write_at_law (Some (Part bank.Advertised third)) value reading d = goes refl refl
+write_at_law (Some (Part bank.Partner third)) value reading d = goes refl refl
+write_at_law (Some (Part bank.Transmit third)) value reading d = goes refl refl
+write_at_law (Some (Part bank.Heard third)) value reading d = goes refl refl
+write_at_law None value reading d = goes refl refl
 
 write_reads : (n value reading : ℕ) (d : Device) → Reads [] d (write_due n value reading d)
 unfolding write_due

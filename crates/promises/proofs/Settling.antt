@@ -1,4 +1,5 @@
 -- A page sent that takes a device from Complete to Check-link resolves the two base pages, whatever Next Pages there were.
+use Rattle.std.specs.Prelude.{Some}
 use Prim.Native.Nat.{ℕ, ◌+◌}
 use mathlib.Core.Path.{◌≡◌, refl, sym, ap, ◌∙◌}
 use mathlib.Core.Bool.{Bool, true, false, cond, not, ◌&&◌, ◌||◌, false≢true}
@@ -9,7 +10,6 @@ use Rattle.page_resolve.specs.Rates.{rate_order}
 use Rattle.page_resolve.specs.Resolving.{resolution_of, said_of}
 use Rattle.port_state.specs.declared.State.{State}
 use Rattle.port_state.specs.declared.State.TheVariants.{Off, Break, Ability, Ack, Complete, CheckLink, Up}
-use Rattle.port_state.specs.declared.Outcome.TheVariants.{Resolved}
 use Rattle.port_state.specs.declared.Device.{Device}
 use Rattle.port_state.specs.Memory.{Due, due, by_state}
 use Rattle.port_state.specs.Changes.{with_state}
@@ -22,7 +22,7 @@ use Rattle.promises.specs.NextPageFacts.{is_complete, is_check_link}
 -- What is due is what resolving two words brings.
 pub record Resolves (own held : ℕ) (x : Due) : Type 0 where
   pub says : x.says ≡ said_of (resolution_of rate_order own held)
-  pub outcome : x.device.link.outcome ≡ Resolved (resolution_of rate_order own held)
+  pub outcome : x.device.link.outcome ≡ Some (resolution_of rate_order own held)
 
 -- It is so if it leaves Check-link.
 record SettlesIf (own held : ℕ) (x : Due) : Type 0 where

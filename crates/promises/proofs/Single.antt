@@ -1,4 +1,5 @@
 -- No second answer fits: what is said tells the answer, so two that say the same are one.
+use Rattle.std.specs.Prelude.{Ok, Err}
 use mathlib.Core.Path.{◌≡◌, refl, sym, ap, ap₂, ◌∙◌}
 use mathlib.Core.Bool.{true, cond}
 use lib.Dec.{eqb}
@@ -7,9 +8,7 @@ use Rattle.answers.specs.declared.Answer.TheVariants as answer
 use Rattle.answers.specs.declared.Refusal.TheVariants.{Gap}
 use Rattle.answers.specs.Answers.{Said}
 use Rattle.answers.proofs.OneAnswer.{one_answer}
-use Rattle.page_resolve.specs.declared.resolving.Resolution.{Resolution}
-use Rattle.page_resolve.specs.declared.resolving.Resolution.TheVariants.{Refused, Settled}
-use Rattle.page_resolve.specs.Resolving.{said_of}
+use Rattle.page_resolve.specs.Resolving.{Resolution, rate_and_role, said_of}
 use Rattle.line_reader.specs.declared.endings.Ending.{Ending}
 use Rattle.line_reader.specs.declared.endings.Ending.TheVariants as ending
 use Rattle.line_reader.specs.declared.endings.Heard.{Heard}
@@ -54,21 +53,21 @@ gap_again Unfit = refl
 
 -- What resolving came to, found again in an answer that says it.
 abbrev resolution_in : Answer → Resolution
-resolution_in answer.Nothing = Refused Gap
-resolution_in (answer.Refused refusal) = Refused refusal
-resolution_in (answer.Page word) = Refused Gap
-resolution_in (answer.Order word) = Refused Gap
-resolution_in (answer.Settled ability master) = Settled ability master
-resolution_in (answer.Value value) = Refused Gap
-resolution_in (answer.Number n) = Refused Gap
-resolution_in answer.Quiet = Refused Gap
-resolution_in answer.Unfit = Refused Gap
+resolution_in answer.Nothing = Err Gap
+resolution_in (answer.Refused refusal) = Err refusal
+resolution_in (answer.Page word) = Err Gap
+resolution_in (answer.Order word) = Err Gap
+resolution_in (answer.Settled ability master) = rate_and_role ability master
+resolution_in (answer.Value value) = Err Gap
+resolution_in (answer.Number n) = Err Gap
+resolution_in answer.Quiet = Err Gap
+resolution_in answer.Unfit = Err Gap
 
 resolutions : (first second : Resolution) → resolved_is_byte first ≡ true → resolved_is_byte second ≡ true → said_of first ≡ said_of second → first ≡ second
-resolutions (Refused r) (Refused s) a b e = ap resolution_in (one_answer (answer.Refused r) (answer.Refused s) refl refl e)
-resolutions (Refused r) (Settled n m) a b e = ap resolution_in (one_answer (answer.Refused r) (answer.Settled n m) refl b e)
-resolutions (Settled n m) (Refused s) a b e = ap resolution_in (one_answer (answer.Settled n m) (answer.Refused s) a refl e)
-resolutions (Settled n m) (Settled k o) a b e = ap resolution_in (one_answer (answer.Settled n m) (answer.Settled k o) a b e)
+resolutions (Err r) (Err s) a b e = ap resolution_in (one_answer (answer.Refused r) (answer.Refused s) refl refl e)
+resolutions (Err r) (Ok s) a b e = ap resolution_in (one_answer (answer.Refused r) (answer.Settled s.ability s.master) refl b e)
+resolutions (Ok r) (Err s) a b e = ap resolution_in (one_answer (answer.Settled r.ability r.master) (answer.Refused s) a refl e)
+resolutions (Ok r) (Ok s) a b e = ap resolution_in (one_answer (answer.Settled r.ability r.master) (answer.Settled s.ability s.master) a b e)
 
 pub no_second_answer : NoSecondAnswer
 no_second_answer =
@@ -86,6 +85,12 @@ no_second_answer =
       event = both;
       plain_record = both;
       reader_numbers_law = both;
+      outcome_numbers_law = both;
+      lasting = both;
+      talk = both;
+      next_pages = both;
+      link = both;
+      outcome = both;
       state = both;
       round = both;
       reader = both;

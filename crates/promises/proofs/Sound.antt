@@ -1,15 +1,15 @@
 -- What is so of every device that calls have made: it is so of a fresh one, and every event keeps it.
+use Rattle.std.specs.Prelude.{Option, Some, None}
 use Prim.Native.Nat.{ℕ, ◌+◌, ◌^◌, ◌<◌, ◌≤◌}
-use mathlib.Core.Path.{◌≡◌, refl, sym, ap, ap₂, ◌∙◌}
+use mathlib.Core.Path.{◌≡◌, refl, sym, ap₂}
 use mathlib.Core.Bool.{Bool, true, false, cond, not, ◌&&◌, ◌||◌, false≢true}
 use mathlib.Core.List.{List, [], ◌∷◌}
 use native.Mathlib.Omega.{arith}
 use lib.Dec.{eqb, leb}
-use borrow.Author.Tests.{leb-false, ltb-true, lt-leb}
+use borrow.Author.Tests.{leb-false, lt-leb}
 use Rattle.answers.specs.Answers.{Said, nothing, refused, page_read, page_ordered, register_value}
 use Rattle.answers.specs.declared.Refusal.{Refusal}
 use Rattle.answers.specs.declared.Refusal.TheVariants as refusal
-use Rattle.page_word.proofs.ComputedTest.{and_left, and_right}
 use Rattle.page_word.specs.Word.{has_bit, is_wide, among}
 use Rattle.page_word.specs.Fields.{field_of, has_other_selector, is_tie}
 use Rattle.page_word.specs.declared.fields.Field.TheVariants as field
@@ -25,19 +25,17 @@ use Rattle.line_reader.specs.Reading.{edge_of}
 use Rattle.port_state.specs.declared.State.{State}
 use Rattle.port_state.specs.declared.State.TheVariants as state
 use Rattle.port_state.specs.declared.Talk.{Talk}
-use Rattle.port_state.specs.declared.Outcome.{Outcome}
-use Rattle.port_state.specs.declared.Outcome.TheVariants.{NoneYet}
 use Rattle.port_state.specs.declared.Device.{Device}
 use Rattle.page_word.specs.Thirds.{start_of, third_of}
 use Rattle.page_word.specs.NextPages.{sets_next_page, same_toggle, null_message}
 use Rattle.port_state.specs.declared.rounds.Round.{Round}
 use Rattle.port_state.specs.declared.rounds.Round.TheVariants.{Base, First, Later}
 use Rattle.port_state.specs.Rounds.{is_base, is_first, own_in_round, held_in_round}
-use Rattle.port_state.specs.Memory.{Due, due, is_talking, is_off, is_up, fresh_device, into_break, into_off}
+use Rattle.port_state.specs.Memory.{Due, due, is_talking, is_off, is_up, fresh_device, into_break, into_off, Outcome}
 use Rattle.port_state.specs.Changes.{with_state, with_reader, with_out, with_count, with_latch, with_loaded}
 use Rattle.port_registers.specs.declared.Bank.TheVariants as bank
 use Rattle.port_registers.specs.declared.Register.{Register}
-use Rattle.port_registers.specs.declared.Register.TheVariants.{Control, Status, Part, Missing}
+use Rattle.port_registers.specs.declared.Register.TheVariants.{Control, Status, Part}
 use Rattle.port_registers.specs.Registers.{register_of, bank_of, bit_if, status_bits, read_at, read_due, enters_break_by, commanded, write_at, write_due}
 use Rattle.port_timing.specs.declared.profile.Profile.{Profile}
 use Rattle.port_timing.specs.Ticks.{low_speed, run_out, inhibit_of, own_page, may_order, orders, is_lost, talks, tick_in, tick_due}
@@ -79,11 +77,11 @@ Talks state.CheckLink r t = t.out ≡ false
 Talks state.Up r t = t.out ≡ false
 
 abbrev pub Comes : State → Outcome → Type 0
-Comes state.Off o = o ≡ NoneYet
-Comes state.Break o = o ≡ NoneYet
-Comes state.Ability o = o ≡ NoneYet
-Comes state.Ack o = o ≡ NoneYet
-Comes state.Complete o = o ≡ NoneYet
+Comes state.Off o = o ≡ None
+Comes state.Break o = o ≡ None
+Comes state.Ability o = o ≡ None
+Comes state.Ack o = o ≡ None
+Comes state.Complete o = o ≡ None
 Comes state.CheckLink o = is_resolved o ≡ true
 Comes state.Up o = has_rate o ≡ true
 
@@ -431,30 +429,30 @@ module _ (reading : ℕ) where
   control_small true = omega arith
   control_small false = omega arith
 
-  read_at_law : (n : ℕ) (r : Register) (d : Device) → Sound d → Brings (kinds_for (Read reading n)) (read_at r d)
-  read_at_law n Control d s = answers (register_value (cond (is_off d.state) 0 (2 ^ 12))) refl (control_small (is_off d.state)) s
-  read_at_law n Status d s =
+  read_at_law : (n : ℕ) (r : Option Register) (d : Device) → Sound d → Brings (kinds_for (Read reading n)) (read_at r d)
+  read_at_law n (Some Control) d s = answers (register_value (cond (is_off d.state) 0 (2 ^ 12))) refl (control_small (is_off d.state)) s
+  read_at_law n (Some Status) d s =
       answers (register_value (status_bits d.lasting.flags.received (is_up d.state) d.lasting.flags.fault d.link.talk.latch)) refl
       (status_small d.lasting.flags.received (is_up d.state) d.lasting.flags.fault d.link.talk.latch)
       (retalk (relatch d.state d.link.next.round (is_up d.state) d s.talks) s)
-  read_at_law n (Part bank third) d s =
+  read_at_law n (Some (Part bank third)) d s =
       answers (register_value (third_of third (bank_of bank d))) refl (let l = part_below (start_of third) 16 (bank_of bank d) in omega (arith, l)) s
-  read_at_law n Missing d s = answers (refused refusal.Register) refl (omega arith) s
+  read_at_law n None d s = answers (refused refusal.Register) refl (omega arith) s
 
   read_brings : (n : ℕ) (d : Device) → Sound d → Brings (kinds_for (Read reading n)) (read_due n d)
   unfolding read_due
   read_brings n d s = read_at_law n (register_of n) d s
 
   -- Writes.
-  write_at_law : (n : ℕ) (r : Register) (value : ℕ) (d : Device) → Sound d → Brings (kinds_for (Write reading n value)) (write_at r value reading d)
+  write_at_law : (n : ℕ) (r : Option Register) (value : ℕ) (d : Device) → Sound d → Brings (kinds_for (Write reading n value)) (write_at r value reading d)
   unfolding commanded
-  write_at_law n Control value d s =
+  write_at_law n (Some Control) value d s =
       either_device (has_bit value 15) (λ _. silent fresh_sound)
       (λ _. either_device (has_bit value 12)
       (λ _. either_device (enters_break_by value d.state) (λ _. silent (into_break_law reading d s)) (λ _. silent s))
       (λ _. silent (into_off_law d s)))
-  write_at_law n Status value d s = silent s
-  write_at_law n (Part bank.Advertised third) value d s =
+  write_at_law n (Some Status) value d s = silent s
+  write_at_law n (Some (Part bank.Advertised third)) value d s =
       silent
       (record {
         advertised_word = third_word third value d.lasting.advertised s.advertised_word;
@@ -464,8 +462,8 @@ module _ (reading : ℕ) where
         talks = s.talks;
         comes = s.comes;
       })
-  write_at_law n (Part bank.Partner third) value d s = silent s
-  write_at_law n (Part bank.Transmit third) value d s =
+  write_at_law n (Some (Part bank.Partner third)) value d s = silent s
+  write_at_law n (Some (Part bank.Transmit third)) value d s =
       silent
       (record {
         advertised_word = s.advertised_word;
@@ -475,8 +473,8 @@ module _ (reading : ℕ) where
         talks = s.talks;
         comes = s.comes;
       })
-  write_at_law n (Part bank.Heard third) value d s = silent s
-  write_at_law n Missing value d s = answers (refused refusal.Register) refl (omega arith) s
+  write_at_law n (Some (Part bank.Heard third)) value d s = silent s
+  write_at_law n None value d s = answers (refused refusal.Register) refl (omega arith) s
 
   write_brings : (n value : ℕ) (d : Device) → Sound d → Brings (kinds_for (Write reading n value)) (write_due n value reading d)
   unfolding write_due

@@ -1,4 +1,5 @@
 -- The events that leave a device in Ability, Ack or Complete where it is, and take no edge.
+use Rattle.std.specs.Prelude.{Option, Some, None}
 use Prim.Native.Nat.{ℕ}
 use mathlib.Core.Path.{◌≡◌, refl, sym, ◌∙◌}
 use mathlib.Core.Bool.{Bool, true, false, cond, not, false≢true}
@@ -12,7 +13,7 @@ use Rattle.port_state.specs.Memory.{Due, due, is_talking}
 use Rattle.port_state.specs.Changes.{with_state}
 use Rattle.port_registers.specs.declared.Bank.TheVariants as bank
 use Rattle.port_registers.specs.declared.Register.{Register}
-use Rattle.port_registers.specs.declared.Register.TheVariants.{Control, Status, Part, Missing}
+use Rattle.port_registers.specs.declared.Register.TheVariants.{Control, Status, Part}
 use Rattle.port_registers.specs.Registers.{register_of, read_at, read_due, write_at, write_due}
 use Rattle.port_registers.proofs.RegisterNumbers.{is_control, control_number}
 use Rattle.port_timing.specs.Ticks.{low_speed, may_order, orders, is_lost, talks, tick_in, tick_due}
@@ -73,24 +74,24 @@ report_stays : (up : Bool) (reading : ℕ) (d : Device) → is_talking d.state �
 unfolding report_due
 report_stays up reading d h = report_in_law d.state up reading d h
 
-read_at_law : (r : Register) (d : Device) → Stays d.state (read_at r d)
-read_at_law Control d = stays refl
-read_at_law Status d = stays refl
-read_at_law (Part bank third) d = stays refl
-read_at_law Missing d = stays refl
+read_at_law : (r : Option Register) (d : Device) → Stays d.state (read_at r d)
+read_at_law (Some Control) d = stays refl
+read_at_law (Some Status) d = stays refl
+read_at_law (Some (Part bank third)) d = stays refl
+read_at_law None d = stays refl
 
 read_stays : (n : ℕ) (d : Device) → Stays d.state (read_due n d)
 unfolding read_due
 read_stays n d = read_at_law (register_of n) d
 
-write_at_law : (r : Register) (value reading : ℕ) (d : Device) → is_control r ≡ false → Stays d.state (write_at r value reading d)
-write_at_law Control value reading d h = absurd (false≢true (sym h))
-write_at_law Status value reading d h = stays refl
-write_at_law (Part bank.Advertised third) value reading d h = stays refl
-write_at_law (Part bank.Partner third) value reading d h = stays refl
-write_at_law (Part bank.Transmit third) value reading d h = stays refl
-write_at_law (Part bank.Heard third) value reading d h = stays refl
-write_at_law Missing value reading d h = stays refl
+write_at_law : (r : Option Register) (value reading : ℕ) (d : Device) → is_control r ≡ false → Stays d.state (write_at r value reading d)
+write_at_law (Some Control) value reading d h = absurd (false≢true (sym h))
+write_at_law (Some Status) value reading d h = stays refl
+write_at_law (Some (Part bank.Advertised third)) value reading d h = stays refl
+write_at_law (Some (Part bank.Partner third)) value reading d h = stays refl
+write_at_law (Some (Part bank.Transmit third)) value reading d h = stays refl
+write_at_law (Some (Part bank.Heard third)) value reading d h = stays refl
+write_at_law None value reading d h = stays refl
 
 write_stays : (n value reading : ℕ) (d : Device) → not (eqb n 512) ≡ true → Stays d.state (write_due n value reading d)
 unfolding write_due

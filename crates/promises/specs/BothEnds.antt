@@ -1,10 +1,9 @@
 -- 01, "Rate and role", for the two ends of a link, each of which resolves its own word and the other's.
-use Rattle.std.specs.Prelude.{ℕ, ◌<◌, ◌≡◌, Bool, true, false, not, length, get_or}
-use Rattle.page_resolve.specs.declared.resolving.Resolution.TheVariants.{Refused, Settled}
+use Rattle.std.specs.Prelude.{ℕ, ◌<◌, ◌≡◌, Bool, true, false, not, length, get_or, Err}
 use Rattle.answers.specs.declared.Refusal.{Refusal}
 use Rattle.answers.specs.declared.Refusal.TheVariants.{None}
 use Rattle.page_resolve.specs.Rates.{rate_order, is_common}
-use Rattle.page_resolve.specs.Resolving.{resolution_of}
+use Rattle.page_resolve.specs.Resolving.{resolution_of, rate_and_role}
 
 -- "Common bits, first in this order": the ability stands at a place of 01's order, and is common, and none before it is.
 pub record FirstCommon (own partner ability : ℕ) : Type 0 where
@@ -16,13 +15,13 @@ pub record FirstCommon (own partner ability : ℕ) : Type 0 where
 
 pub record BothEnds : Type 0 where
   -- Both settle on the same ability, one as master and the other as slave.
-  pub settled : (own partner ability : ℕ) (master : Bool) → resolution_of rate_order own partner ≡ Settled ability master
-      → resolution_of rate_order partner own ≡ Settled ability (not master)
+  pub settled : (own partner ability : ℕ) (master : Bool) → resolution_of rate_order own partner ≡ rate_and_role ability master
+      → resolution_of rate_order partner own ≡ rate_and_role ability (not master)
   -- What one end refuses the other refuses too, with the same number.
-  pub refused : (own partner : ℕ) (refusal : Refusal) → resolution_of rate_order own partner ≡ Refused refusal
-      → resolution_of rate_order partner own ≡ Refused refusal
+  pub refused : (own partner : ℕ) (refusal : Refusal) → resolution_of rate_order own partner ≡ Err refusal
+      → resolution_of rate_order partner own ≡ Err refusal
   -- They settle on the first common ability,
-  pub first : (own partner ability : ℕ) (master : Bool) → resolution_of rate_order own partner ≡ Settled ability master → FirstCommon own partner ability
+  pub first : (own partner ability : ℕ) (master : Bool) → resolution_of rate_order own partner ≡ rate_and_role ability master → FirstCommon own partner ability
   -- and answer None only where there is none.
-  pub none : (own partner : ℕ) → resolution_of rate_order own partner ≡ Refused None
+  pub none : (own partner : ℕ) → resolution_of rate_order own partner ≡ Err None
       → (k : ℕ) → k < length rate_order → is_common own partner (get_or rate_order k 0) ≡ false

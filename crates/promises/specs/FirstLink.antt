@@ -1,13 +1,12 @@
 -- A link from a fresh device through every state to Up, with the words of P9: own 850001, partner A90001 (hex). It shows that the steps lead
 -- somewhere, and is one of the three pasts in WorkedPasts.
-use Rattle.std.specs.Prelude.{ℕ, ◌^◌, ◌≡◌, true, false, List, [], ◌∷◌, ◌++◌, map}
-use Rattle.page_resolve.specs.declared.resolving.Resolution.TheVariants.{Settled}
+use Rattle.page_resolve.specs.Resolving.{rate_and_role}
+use Rattle.std.specs.Prelude.{ℕ, ◌^◌, ◌≡◌, true, false, List, [], ◌∷◌, ◌++◌, map, Some}
 use Rattle.answers.specs.Answers.{spoken, page_read, page_ordered, settled_on, register_value}
 use Rattle.line_mode.specs.Modes.{lsm_mode}
 use Rattle.line_writer.specs.Transitions.{readings}
 use Rattle.port_state.specs.declared.State.{State}
 use Rattle.port_state.specs.declared.State.TheVariants.{Off, Break, Ability, Ack, Complete, CheckLink, Up}
-use Rattle.port_state.specs.declared.Outcome.TheVariants.{Resolved}
 use Rattle.port_state.specs.Memory.{fresh_device}
 use Rattle.port_step.specs.declared.events.Event.{Event}
 use Rattle.port_step.specs.declared.events.Event.TheVariants.{Edge, Tick, Sent, Report, Read, Write}
@@ -63,7 +62,7 @@ pub record FirstLink : Type 0 where
   pub ack : state_after to_ack ≡ Ack
   pub complete : state_after to_complete ≡ Complete
   pub check_link : state_after to_check_link ≡ CheckLink
-  pub outcome : (after_all fresh_device to_check_link).link.outcome ≡ Resolved (Settled 2 false)
+  pub outcome : (after_all fresh_device to_check_link).link.outcome ≡ Some (rate_and_role 2 false)
   pub up : state_after to_up ≡ Up
   pub says : spoken (says_to fresh_device (to_up ++ reads))
       ≡ page_read 0xA90001 ∷ page_read 0xA940A1 ∷ page_ordered 0x854121 ∷ page_ordered 0x854121 ∷ page_ordered 0x854121 ∷ settled_on 2 false ∷ register_value 0x68

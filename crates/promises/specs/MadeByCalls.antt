@@ -1,6 +1,6 @@
 -- What is so of every device that calls have made: the fresh one (`Device::fresh`), and what any events (`step`, `run`) have made of it. (The functions that change one
 -- part of a device are public too, for other crates, and can make any record; some that no events make are in `NotMade`.)
-use Rattle.std.specs.Prelude.{ℕ, ◌^◌, ◌<◌, ◌≤◌, ◌≡◌, Bool, true, false, not, ◌&&◌, ◌||◌, List, [], ◌∷◌}
+use Rattle.std.specs.Prelude.{ℕ, ◌^◌, ◌<◌, ◌≤◌, ◌≡◌, Bool, true, false, not, ◌&&◌, ◌||◌, List, [], ◌∷◌, Some, None}
 use Rattle.answers.specs.Choices.{◌=?◌}
 use Rattle.page_word.specs.Word.{is_wide, among}
 use Rattle.page_word.specs.Fields.{has_other_selector, is_tie}
@@ -10,11 +10,9 @@ use Rattle.line_reader.specs.declared.reader.Reader.{Reader}
 use Rattle.line_reader.specs.declared.reader.Reader.TheVariants.{Fresh, Open, Dropping}
 use Rattle.port_state.specs.declared.State.{State}
 use Rattle.port_state.specs.declared.State.TheVariants.{Complete, CheckLink, Up}
-use Rattle.port_state.specs.declared.Outcome.{Outcome}
-use Rattle.port_state.specs.declared.Outcome.TheVariants.{NoneYet, Resolved}
 use Rattle.port_state.specs.declared.Device.{Device}
 use Rattle.port_state.specs.declared.rounds.Round.{Round}
-use Rattle.port_state.specs.Memory.{by_state, is_talking}
+use Rattle.port_state.specs.Memory.{by_state, is_talking, Outcome}
 use Rattle.port_state.specs.Rounds.{by_round, is_base, is_first}
 use Rattle.port_timing.specs.Sending.{has_rate}
 use Rattle.port_step.specs.declared.events.Event.{Event}
@@ -38,8 +36,8 @@ abbrev pub is_later : Round → Bool
 is_later round = by_round round false false true
 
 abbrev pub is_resolved : Outcome → Bool
-is_resolved NoneYet = false
-is_resolved (Resolved resolution) = true
+is_resolved None = false
+is_resolved (Some resolution) = true
 
 -- An open attempt stands where every page has a transition, or one with a one bit there, and not at 157, which ends it.
 abbrev pub stands_right : Reader → Bool

@@ -1,6 +1,6 @@
 -- Facts about Next Pages: neither end tells or takes a page twice in a row, what 517-519 and 523-525 read as was heard on this link, when rate and role are resolved, and
 -- that they hang on the base pages.
-use Rattle.std.specs.Prelude.{ℕ, ◌+◌, ◌≡◌, Bool, true, false, not, ◌&&◌, ◌||◌, List, [], ◌∷◌, ◌++◌, if◌then◌else◌}
+use Rattle.std.specs.Prelude.{ℕ, ◌+◌, ◌≡◌, Bool, true, false, not, ◌&&◌, ◌||◌, List, [], ◌∷◌, ◌++◌, if◌then◌else◌, Some}
 use Rattle.answers.specs.Choices.{◌≤?◌, ◌=?◌}
 use Rattle.answers.specs.Answers.{page_ordered}
 use Rattle.page_word.specs.Word.{among}
@@ -11,7 +11,6 @@ use Rattle.page_resolve.specs.Rates.{rate_order}
 use Rattle.page_resolve.specs.Resolving.{resolution_of, said_of}
 use Rattle.port_state.specs.declared.State.{State}
 use Rattle.port_state.specs.declared.State.TheVariants.{Complete, CheckLink}
-use Rattle.port_state.specs.declared.Outcome.TheVariants.{Resolved}
 use Rattle.port_state.specs.declared.Link.{Link}
 use Rattle.port_state.specs.declared.Device.{Device}
 use Rattle.port_state.specs.Memory.{by_state, fresh_device}
@@ -99,7 +98,7 @@ pub record BasePages : Type 0 where
   pub says : (d : Device) (reading : ℕ) → d.state ≡ Complete → (step_due (Sent reading) d).device.state ≡ CheckLink
       → (step_due (Sent reading) d).says ≡ said_of (resolution_of rate_order d.link.talk.own d.link.talk.held)
   pub keeps : (d : Device) (reading : ℕ) → d.state ≡ Complete → (step_due (Sent reading) d).device.state ≡ CheckLink
-      → (step_due (Sent reading) d).device.link.outcome ≡ Resolved (resolution_of rate_order d.link.talk.own d.link.talk.held)
+      → (step_due (Sent reading) d).device.link.outcome ≡ Some (resolution_of rate_order d.link.talk.own d.link.talk.held)
   -- and while the link is the same the own base page stays, and the held one too but where it is taken, at round base.
   pub own_stays : (d : Device) (e : Event) → talks_on e d ≡ true → (link_after e d).talk.own ≡ d.link.talk.own
   pub held_stays : (d : Device) (e : Event) → talks_on e d ≡ true → (is_base d.link.next.round && holds_by e d) ≡ false → (link_after e d).talk.held ≡ d.link.talk.held

@@ -1,12 +1,11 @@
 -- Links on which Next Pages are exchanged, worked out: both ends of a wire, and one end with what it hears given.
-use Rattle.std.specs.Prelude.{ℕ, ◌+◌, ◌^◌, ◌≡◌, true, false, List, [], ◌∷◌, ◌++◌, if◌then◌else◌}
+use Rattle.page_resolve.specs.Resolving.{rate_and_role}
+use Rattle.std.specs.Prelude.{ℕ, ◌+◌, ◌≡◌, true, false, List, [], ◌∷◌, ◌++◌, if◌then◌else◌, Some}
 use Rattle.answers.specs.Choices.{◌=?◌}
 use Rattle.answers.specs.declared.Refusal.TheVariants.{Changed, Toggle}
 use Rattle.answers.specs.Answers.{Said, nothing, refused, page_read, page_ordered, settled_on, register_value, spoken}
-use Rattle.page_resolve.specs.declared.resolving.Resolution.TheVariants.{Settled}
 use Rattle.port_state.specs.declared.State.{State}
 use Rattle.port_state.specs.declared.State.TheVariants.{Break, Ability, Ack, Complete, CheckLink}
-use Rattle.port_state.specs.declared.Outcome.TheVariants.{Resolved}
 use Rattle.port_state.specs.Memory.{fresh_device}
 use Rattle.port_step.specs.declared.events.Event.{Event}
 use Rattle.port_step.specs.declared.events.Event.TheVariants.{Tick, Sent, Read, Write}
@@ -104,8 +103,8 @@ pub record BothTell : Type 0 where
   pub left_reads_null : heard_read left_end ≡ register_value 0x6001 ∷ register_value 0 ∷ register_value 0 ∷ []
   pub right_reads_second : heard_read right_end ≡ register_value 0x4123 ∷ register_value 0 ∷ register_value 0 ∷ []
   -- 02, request 7: "Rate and role still come from the base pages": 1000BASE-T1, and the higher nonce is master.
-  pub left_settled : (after_all fresh_device left_end).link.outcome ≡ Resolved (Settled 2 false)
-  pub right_settled : (after_all fresh_device right_end).link.outcome ≡ Resolved (Settled 2 true)
+  pub left_settled : (after_all fresh_device left_end).link.outcome ≡ Some (rate_and_role 2 false)
+  pub right_settled : (after_all fresh_device right_end).link.outcome ≡ Some (rate_and_role 2 true)
   pub left_state : state_after left_end ≡ CheckLink
   pub right_state : state_after right_end ≡ CheckLink
 

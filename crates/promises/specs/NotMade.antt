@@ -1,11 +1,9 @@
 -- 01, "What the promises have to say": "A device or reader record that no call has made is taken too: the call ends safely and gives what the written definition
 -- gives there." Some of them, worked out.
-use Rattle.std.specs.Prelude.{ℕ, ◌^◌, ◌≡◌, true, false}
+use Rattle.std.specs.Prelude.{ℕ, ◌^◌, ◌≡◌, true, false, Some, Err}
 use Rattle.answers.specs.declared.Refusal.TheVariants as refusal
 use Rattle.answers.specs.Answers.{nothing, refused}
-use Rattle.page_resolve.specs.declared.resolving.Resolution.{Resolution}
-use Rattle.page_resolve.specs.declared.resolving.Resolution.TheVariants.{Refused, Settled}
-use Rattle.page_resolve.specs.Resolving.{said_of}
+use Rattle.page_resolve.specs.Resolving.{said_of, Resolution, rate_and_role}
 use Rattle.line_mode.specs.Modes.{lsm_mode}
 use Rattle.line_reader.specs.declared.endings.Ending.TheVariants.{Gap}
 use Rattle.line_reader.specs.declared.endings.Heard.TheVariants.{Ended}
@@ -13,7 +11,6 @@ use Rattle.line_reader.specs.declared.reader.Reader.TheVariants.{Open, Dropping}
 use Rattle.line_reader.specs.Reading.{step, edge_of}
 use Rattle.port_state.specs.declared.Device.{Device}
 use Rattle.port_state.specs.declared.State.TheVariants.{Ability, Complete, CheckLink, Up}
-use Rattle.port_state.specs.declared.Outcome.TheVariants.{Resolved}
 use Rattle.port_state.specs.declared.rounds.Round.TheVariants.{First}
 use Rattle.port_state.specs.Memory.{due, fresh_device}
 use Rattle.port_state.specs.Changes.{with_state, with_own, with_held, with_out, with_count, mark_waiting, with_timer, with_outcome, with_reader, with_own_next, with_round}
@@ -44,7 +41,7 @@ first_in_complete = with_round First (with_own_next 0x2801 (complete_with 0x8500
 
 -- A device in Up with a page out.
 abbrev pub out_in_up : Device
-out_in_up = with_state Up (with_outcome (Resolved (Settled 2 false)) (with_out true fresh_device))
+out_in_up = with_state Up (with_outcome (Some (rate_and_role 2 false)) (with_out true fresh_device))
 
 -- A device in Ability whose reader stands at position 156, where no page has a transition.
 abbrev pub at156 : Device
@@ -55,7 +52,7 @@ at156 = with_state Ability (with_reader (Open 156 0 0) (with_own 0x850001 fresh_
 abbrev pub Resolves : Device → Resolution → Type 0
 Resolves d resolution =
     step_due (Sent 1000) d
-    ≡ due (said_of resolution) (with_state CheckLink (with_outcome (Resolved resolution) (with_timer 1000 (with_count 3 (mark_waiting 1000 (with_out false d))))))
+    ≡ due (said_of resolution) (with_state CheckLink (with_outcome (Some resolution) (with_timer 1000 (with_count 3 (mark_waiting 1000 (with_out false d))))))
 
 pub record NotMade : Type 0 where
   -- No events from fresh on make one of them: they are not as `made` of `MadeByCalls` has it.
@@ -67,11 +64,11 @@ pub record NotMade : Type 0 where
   pub no_page_out_in_up : Made out_in_up → ⊥
   pub no_reader_at_156 : Made at156 → ⊥
   -- "In Complete a refusal of resolving, 4, 5 or 13 as well (these only on a record that no call has made), goes to Check-link without a rate."
-  pub wide : Resolves wide_own (Refused refusal.Wide)
-  pub selector : Resolves selector_zero (Refused refusal.Selector)
-  pub tie : Resolves equal_nonces (Refused refusal.Tie)
+  pub wide : Resolves wide_own (Err refusal.Wide)
+  pub selector : Resolves selector_zero (Err refusal.Selector)
+  pub tie : Resolves equal_nonces (Err refusal.Tie)
   -- "Each page sent adds one, up to three." A count that is more is not named; the definition resolves there too, and leaves 3.
-  pub count : Resolves count_of_four (Settled 2 false)
+  pub count : Resolves count_of_four (rate_and_role 2 false)
   -- Round first in Complete: the held page is the base page, whose NP is one, so the Null message is next; "round base becomes first", and first stays.
   pub first : step_due (Sent 1000) first_in_complete
       ≡ due nothing (with_state Ability (with_own_next 0x2001 (with_count 3 (mark_waiting 1000 (with_out false first_in_complete)))))

@@ -1,11 +1,9 @@
 -- 01, "What the promises have to say": "That no second answer fits is proved". A contract fixes its result: whatever two results meet it are the same; `meant` is the one exception.
-use Rattle.std.specs.Prelude.{ℕ, ◌≡◌, Bool, true, List}
+use Rattle.std.specs.Prelude.{ℕ, ◌≡◌, Bool, true, List, Ok, Err}
 use Rattle.answers.specs.declared.Refusal.{Refusal}
 use Rattle.answers.specs.declared.Answer.{Answer}
 use Rattle.answers.specs.Answers.{Said, said, is_byte, ability_is_byte}
-use Rattle.page_resolve.specs.declared.resolving.Resolution.{Resolution}
-use Rattle.page_resolve.specs.declared.resolving.Resolution.TheVariants as resolution
-use Rattle.page_resolve.specs.Resolving.{said_of}
+use Rattle.page_resolve.specs.Resolving.{said_of, Resolution}
 use Rattle.line_reader.specs.declared.endings.Ending.{Ending}
 use Rattle.line_reader.specs.declared.endings.Heard.{Heard}
 use Rattle.line_reader.specs.declared.reader.Reader.{Reader}
@@ -22,14 +20,19 @@ use Rattle.port_state.specs.declared.State.{State}
 use Rattle.port_state.specs.declared.rounds.Round.{Round}
 use Rattle.port_state.specs.declared.plain_record.PlainRecord.{PlainRecord}
 use Rattle.port_state.specs.declared.plain_record.ReaderNumbers.{ReaderNumbers}
-use Rattle.port_state.specs.Memory.{Due, Meets}
+use Rattle.port_state.specs.declared.plain_record.OutcomeNumbers.{OutcomeNumbers}
+use Rattle.port_state.specs.declared.Lasting.{Lasting}
+use Rattle.port_state.specs.declared.Talk.{Talk}
+use Rattle.port_state.specs.declared.NextPages.{NextPages}
+use Rattle.port_state.specs.declared.Link.{Link}
+use Rattle.port_state.specs.Memory.{Outcome, Due, Meets}
 use Rattle.port_state.specs.PlainRecords.{device_of}
 use Rattle.port_step.specs.declared.events.Event.{Event}
 
 -- The one premise here: an ability's number is a byte, by its type. `ability_is_byte` asks it of an answer; this asks it of what resolving came to.
 abbrev pub resolved_is_byte : Resolution → Bool
-resolved_is_byte (resolution.Refused refusal) = true
-resolved_is_byte (resolution.Settled ability master) = is_byte ability
+resolved_is_byte (Err refused) = true
+resolved_is_byte (Ok settled) = is_byte settled.ability
 
 -- A contract `result ≡ ..` has at most one result. This is true of every type, since both are the same as what the definition has.
 abbrev pub Single : (A : Type 0) → Type 0
@@ -50,10 +53,16 @@ pub record NoSecondAnswer : Type 0 where
   pub read : Single ReadOutcome
   pub resolved : Single Resolution
   pub device : Single Device
-  -- So it is with an event, and with a device as numbers: its record, a reader's numbers, and what numbers in a record mean. (No public function gives an outcome, or an outcome's numbers, by itself.)
+  -- So it is with an event, and with a device as numbers: its record, the numbers of a reader and of an outcome, and what numbers in a record mean.
   pub event : Single Event
   pub plain_record : Single PlainRecord
   pub reader_numbers_law : Single ReaderNumbers
+  pub outcome_numbers_law : Single OutcomeNumbers
+  pub lasting : Single Lasting
+  pub talk : Single Talk
+  pub next_pages : Single NextPages
+  pub link : Single Link
+  pub outcome : Single Outcome
   pub state : Single State
   pub round : Single Round
   pub reader : Single Reader

@@ -7,9 +7,9 @@ mod lines;
 
 use line_reader::Reader;
 use lines::tell;
-use page_resolve::Resolution;
+use page_resolve::Settled;
 use page_word::WIDE;
-use port_state::{Device, Link, NextPages, Outcome, Round, State, Talk};
+use port_state::{Device, Link, NextPages, Round, State, Talk};
 use port_step::Event;
 use std::io;
 
@@ -50,10 +50,10 @@ fn complete_at_round_first() -> Device {
 // A device in Up, settled on 1000BASE-T1 as slave, with a page out.
 fn up() -> Device {
     let fresh = Device::fresh();
-    let outcome = Outcome::Resolved(Resolution::Settled {
+    let outcome = Some(Ok(Settled {
         ability: 2,
         master: false,
-    });
+    }));
     let talk = Talk {
         out: true,
         ..fresh.link.talk

@@ -5,4 +5,4 @@ use Rattle.port_lent.proofs.quick.tick_acts.Goals as goal
 
 pub returns-then-is_talking : goal.returns-then-is_talking
 returns-then-is_talking c idle draw =
-    talking _ _ draw (ap is_talking (sym c.state_of.ensures) ∙ sym c.is_talking.ensures ∙ c.if-is_talking.true) (sym c.talk_acts.ensures ∙ idle)
+    talking _ _ draw (ap is_talking (sym c.from.ensures) ∙ sym c.is_talking.ensures ∙ c.if-is_talking.true) (sym c.talk_acts.ensures ∙ idle)
