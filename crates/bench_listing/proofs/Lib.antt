@@ -1,4 +1,5 @@
 pub mod PlacingLaws
+pub mod TextLaws
 pub mod NumberLaws
 pub mod LineLaws
 pub mod ReadingLaws

@@ -8,31 +8,33 @@ use lib.ListN.{length}
 use Rattle.line_reader.specs.declared.endings.Ending.{Ending}
 use Rattle.line_reader.specs.declared.endings.Ending.TheVariants.{Good, Gap, Cut, Check}
 use Rattle.line_captures.specs.declared.captures.ReadOutcome.{ReadOutcome}
-use Rattle.line_captures.specs.declared.captures.ReadOutcome.TheVariants.{Attempt}
+use Rattle.line_captures.specs.declared.captures.ReadOutcome.TheVariants.{UnknownMode, PastTheEnd, AtTheEnd, Attempt}
 use Rattle.line_captures.specs.Captures.{read_of, onwards, attempts_from, attempts}
 use Rattle.line_captures.proofs.Walk.{attempt_forward}
-use Rattle.bench_listing.specs.Calls.{Puts}
+use Rattle.bench_listing.specs.declared.text.Text.{Text}
+use Rattle.bench_listing.specs.Texts.{Adds}
 use Rattle.bench_listing.specs.Listing.{is_good, attempt_line, attempt_lines, good_ones, bad_ones, first_line, last_line, capture_listing}
-use Rattle.bench_listing.proofs.PlacingLaws.{same_long, puts_same, puts_then, puts_none}
+use Rattle.bench_listing.proofs.PlacingLaws.{same_long}
+use Rattle.bench_listing.proofs.TextLaws.{adds_same, adds_then, adds_none}
 
 -- What holds whenever the loop begins: the lines of so many attempts stand behind the first line, and the others are still to come.
-pub record Walking (mode : ℕ) (capture before : List ℕ) (start : ℕ) (output : List ℕ) (at place attempted pages : ℕ) : Type 0 where
+pub record Walking (mode : ℕ) (capture : List ℕ) (before text : Text) (place attempted pages : ℕ) : Type 0 where
   pub lines : List ℕ
   pub more : ℕ
   pub enough : length capture ≤ place + more
   pub most : place ≤ length capture
   pub few : attempted ≤ place
   pub some : pages ≤ attempted
-  pub short : at ≤ 20 + 23 * attempted
-  pub long : 184040 ≤ length output
-  pub puts : Puts before start lines output at
-  pub text : attempt_lines 1 (attempts mode capture) ≡ lines ++ attempt_lines (attempted + 1) (attempts_from more mode capture place)
+  pub short : text.length ≤ before.length + 23 * attempted
+  pub long : length text.bytes.now ≡ length before.bytes.now
+  pub adds : Adds before lines text
+  pub same : attempt_lines 1 (attempts mode capture) ≡ lines ++ attempt_lines (attempted + 1) (attempts_from more mode capture place)
   pub good : good_ones (attempts mode capture) ≡ pages + good_ones (attempts_from more mode capture place)
   pub other : pages + bad_ones (attempts mode capture) ≡ attempted + bad_ones (attempts_from more mode capture place)
 
-pub walk_start : (mode : ℕ) (capture output : List ℕ) (at : ℕ) → at ≤ 20 → 184040 ≤ length output → Walking mode capture output at output at 0 0 0
+pub walk_start : (mode : ℕ) (capture : List ℕ) (text : Text) → text.length ≤ length text.bytes.now → Walking mode capture text text 0 0 0
 unfolding attempts
-walk_start mode capture output at low long =
+walk_start mode capture text fits =
     record {
       lines = [];
       more = length capture;
@@ -41,9 +43,9 @@ walk_start mode capture output at low long =
       few = omega arith;
       some = omega arith;
       short = omega arith;
-      long = long;
-      puts = puts_none output at (omega arith);
-      text = refl;
+      long = refl;
+      adds = adds_none text fits;
+      same = refl;
       good = omega arith;
       other = omega arith;
     }
@@ -74,65 +76,68 @@ one_more : (more mode : ℕ) (capture : List ℕ) (place : ℕ) (ending : Ending
 unfolding attempts_from
 one_more more mode capture place ending next h = rw h
 
-pub no_more : (outcome : ReadOutcome) → ((from : ℕ → List Ending) → onwards outcome from ≡ []) → (more mode : ℕ) (capture : List ℕ) (place : ℕ)
-    → read_of mode capture place ≡ outcome → attempts_from more mode capture place ≡ []
+pub no_more : (mode : ℕ) (capture : List ℕ) (place : ℕ) (outcome : ReadOutcome) → outcome ≡ read_of mode capture place
+    → ((ending : Ending) (next : ℕ) → outcome ≡ Attempt ending next → ⊥) → (more : ℕ) → attempts_from more mode capture place ≡ []
 unfolding attempts_from
-no_more outcome none zero mode capture place h = refl
-no_more outcome none (suc more) mode capture place h = rw h (none (attempts_from more mode capture))
-
-module _ (mode : ℕ) (capture before : List ℕ) (start : ℕ) (output : List ℕ) (at place attempted pages : ℕ)
-    (w : Walking mode capture before start output at place attempted pages)
+no_more mode capture place outcome e none zero = refl
+no_more mode capture place outcome e none (suc more) = rw (sym e) (by outcome none)
   where
-    -- One attempt on.
-    module _ (ending : Ending) (next : ℕ) (brought : read_of mode capture place ≡ Attempt ending next) (good : ℕ) (counted : good ≡ cond (is_good ending) 1 0)
-        (after : List ℕ) (next-at : ℕ) (p : Puts output at (attempt_line (attempted + 1) ending) after next-at) (short : next-at ≤ at + 23)
-      where
-        pub walk_on : Walking mode capture before start after next-at next (attempted + 1) (pages + good)
-        walk_on = by w.more w.enough w.text w.good w.other
-          where
-            by : (more : ℕ) → length capture ≤ place + more
-                → attempt_lines 1 (attempts mode capture) ≡ w.lines ++ attempt_lines (attempted + 1) (attempts_from more mode capture place)
-                → good_ones (attempts mode capture) ≡ pages + good_ones (attempts_from more mode capture place)
-                → pages + bad_ones (attempts mode capture) ≡ attempted + bad_ones (attempts_from more mode capture place)
-                → Walking mode capture before start after next-at next (attempted + 1) (pages + good)
-            by zero enough text goods others = absurd (let f = attempt_forward mode capture place ending next brought in let a = f.0 in let b = f.1 in omega arith)
-            by (suc more) enough text goods others =
-                let f = attempt_forward mode capture place ending next brought in
-                let ahead = f.0 in
-                let inside = f.1 in
-                let here = one_more more mode capture place ending next brought in
-                let rest = attempts_from more mode capture next in
-                let one = one_of_two ending in
-                record {
-                  lines = w.lines ++ attempt_line (attempted + 1) ending;
-                  more = more;
-                  enough = omega arith;
-                  most = inside;
-                  few = let l = w.few in omega arith;
-                  some = let l = w.some in omega arith;
-                  short = let l = w.short in omega arith;
-                  long = let l = w.long in let s = same_long p in omega arith;
-                  puts = puts_then w.puts p;
-                  text =
-                      text ∙ ap (λ (l : List ℕ). w.lines ++ l) (ap (attempt_lines (attempted + 1)) here ∙ lines_more (attempted + 1) ending rest)
-                      ∙ sym (append_assoc w.lines (attempt_line (attempted + 1) ending) (attempt_lines (attempted + 1 + 1) rest));
-                  good = let a = ap good_ones here ∙ good_more 0 ending rest in omega arith;
-                  other = let a = ap bad_ones here ∙ bad_more 0 ending rest in omega arith;
-                }
+    by : (outcome : ReadOutcome) → ((ending : Ending) (next : ℕ) → outcome ≡ Attempt ending next → ⊥) → onwards outcome (attempts_from more mode capture) ≡ []
+    by UnknownMode none = refl
+    by PastTheEnd none = refl
+    by AtTheEnd none = refl
+    by (Attempt ending next) none = absurd (none ending next refl)
 
-    -- With the outer lines the walk leaves the whole listing.
-    pub walked : (whole after : List ℕ) (end : ℕ) → ((more : ℕ) → attempts_from more mode capture place ≡ [])
-        → Puts whole 0 (first_line mode (length capture)) before start → Puts output at (last_line pages (attempted - pages)) after end
-        → Puts whole 0 (capture_listing mode capture) after end
-    unfolding capture_listing attempt_lines good_ones bad_ones
-    walked whole after end none first last =
-        puts_same (puts_then (puts_then first w.puts) last)
-        (ap₂ (λ (l m : List ℕ). first_line mode (length capture) ++ l ++ m)
-        (sym (w.text ∙ ap (λ (l : List Ending). w.lines ++ attempt_lines (attempted + 1) l) (none w.more) ∙ append-nil w.lines))
-        (ap₂ last_line pages_right bad_right))
-      where
-        pages_right : pages ≡ good_ones (attempts mode capture)
-        pages_right = let g = w.good ∙ ap (λ (l : List Ending). pages + good_ones l) (none w.more) in omega arith
+module _ (mode : ℕ) (capture : List ℕ) (before text : Text) (place attempted pages : ℕ) (w : Walking mode capture before text place attempted pages) where
+  -- One attempt on.
+  module _ (ending : Ending) (next : ℕ) (brought : read_of mode capture place ≡ Attempt ending next) (good : ℕ) (counted : good ≡ cond (is_good ending) 1 0)
+      (after : Text) (p : Adds text (attempt_line (attempted + 1) ending) after) (short : after.length ≤ text.length + 23)
+    where
+      pub walk_on : Walking mode capture before after next (attempted + 1) (pages + good)
+      walk_on = by w.more w.enough w.same w.good w.other
+        where
+          by : (more : ℕ) → length capture ≤ place + more
+              → attempt_lines 1 (attempts mode capture) ≡ w.lines ++ attempt_lines (attempted + 1) (attempts_from more mode capture place)
+              → good_ones (attempts mode capture) ≡ pages + good_ones (attempts_from more mode capture place)
+              → pages + bad_ones (attempts mode capture) ≡ attempted + bad_ones (attempts_from more mode capture place)
+              → Walking mode capture before after next (attempted + 1) (pages + good)
+          by zero enough same goods others = absurd (let f = attempt_forward mode capture place ending next brought in let a = f.0 in let b = f.1 in omega arith)
+          by (suc more) enough same goods others =
+              let f = attempt_forward mode capture place ending next brought in
+              let ahead = f.0 in
+              let inside = f.1 in
+              let here = one_more more mode capture place ending next brought in
+              let rest = attempts_from more mode capture next in
+              let one = one_of_two ending in
+              record {
+                lines = w.lines ++ attempt_line (attempted + 1) ending;
+                more = more;
+                enough = omega arith;
+                most = inside;
+                few = let l = w.few in omega arith;
+                some = let l = w.some in omega arith;
+                short = let l = w.short in omega arith;
+                long = same_long p.puts ∙ w.long;
+                adds = adds_then w.adds p;
+                same =
+                    same ∙ ap (λ (l : List ℕ). w.lines ++ l) (ap (attempt_lines (attempted + 1)) here ∙ lines_more (attempted + 1) ending rest)
+                    ∙ sym (append_assoc w.lines (attempt_line (attempted + 1) ending) (attempt_lines (attempted + 1 + 1) rest));
+                good = let a = ap good_ones here ∙ good_more 0 ending rest in omega arith;
+                other = let a = ap bad_ones here ∙ bad_more 0 ending rest in omega arith;
+              }
 
-        bad_right : attempted - pages ≡ bad_ones (attempts mode capture)
-        bad_right = let b = w.other ∙ ap (λ (l : List Ending). attempted + bad_ones l) (none w.more) in omega arith
+  -- With the outer lines the walk leaves the whole listing.
+  pub walked : (whole after : Text) → ((more : ℕ) → attempts_from more mode capture place ≡ []) → Adds whole (first_line mode (length capture)) before
+      → Adds text (last_line pages (attempted - pages)) after → Adds whole (capture_listing mode capture) after
+  unfolding capture_listing attempt_lines good_ones bad_ones
+  walked whole after none first last =
+      adds_same (adds_then (adds_then first w.adds) last)
+      (ap₂ (λ (l m : List ℕ). first_line mode (length capture) ++ l ++ m)
+      (sym (w.same ∙ ap (λ (l : List Ending). w.lines ++ attempt_lines (attempted + 1) l) (none w.more) ∙ append-nil w.lines))
+      (ap₂ last_line pages_right bad_right))
+    where
+      pages_right : pages ≡ good_ones (attempts mode capture)
+      pages_right = let g = w.good ∙ ap (λ (l : List Ending). pages + good_ones l) (none w.more) in omega arith
+
+      bad_right : attempted - pages ≡ bad_ones (attempts mode capture)
+      bad_right = let b = w.other ∙ ap (λ (l : List Ending). attempted + bad_ones l) (none w.more) in omega arith

@@ -1,3 +1,4 @@
 pub mod Words
 pub mod Listing
 pub mod Calls
+pub mod Texts

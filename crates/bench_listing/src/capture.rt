@@ -1,9 +1,9 @@
 // The listing of a capture.
 ghost use Rattle.std.specs.Prelude.{◌≡◌, ◌≤◌, length, if◌then◌else◌};
-ghost use Rattle.bench_listing.specs.Calls.{Puts};
 ghost use Rattle.bench_listing.specs.Listing.{is_good, capture_listing};
+ghost use Rattle.bench_listing.specs.Texts.{HasRoom, Adds};
 
-use crate::text::{put_attempt, put_first_line, put_last_line};
+use crate::text::Text;
 use line_captures::ReadOutcome;
 use line_reader::Ending;
 
@@ -16,26 +16,19 @@ fn good_one(ending: Ending) -> usize
 }
 
 // The first line, a line for each attempt from place to next place, and the last line.
-pub(crate) fn list_capture(capture: &[u32], mode: u32, output: &mut [u8]) -> usize
-    requires { (length capture.now ≤ 8000) × (184040 ≤ length output.old) }
-    ensures { Puts output.old 0 (capture_listing mode capture.now) output.new result }
+pub(crate) fn put_capture(text: &mut Text, mode: u32, capture: &[u32])
+    requires { (length capture.now ≤ 8000) × HasRoom text.old 184040 }
+    ensures { Adds text.old (capture_listing mode capture.now) text.new }
 {
-    let mut at = put_first_line(output, mode, capture.len());
-    let mut place: usize = 0;
-    let mut number: usize = 0;
-    let mut pages: usize = 0;
-    loop {
-        match line_captures::read(capture, place, mode) {
-            ReadOutcome::Attempt { ending, next } => {
-                number += 1;
-                pages += good_one(ending);
-                at = put_attempt(output, at, number, ending);
-                place = next;
-            }
-            ReadOutcome::UnknownMode => break,
-            ReadOutcome::PastTheEnd => break,
-            ReadOutcome::AtTheEnd => break,
-        }
+    text.put_first_line(mode, capture.len());
+    let mut place = 0;
+    let mut number = 0;
+    let mut pages = 0;
+    while let ReadOutcome::Attempt { ending, next } = line_captures::read(capture, place, mode) {
+        number += 1;
+        pages += good_one(ending);
+        text.put_attempt(number, ending);
+        place = next;
     }
-    put_last_line(output, at, pages, number - pages)
+    text.put_last_line(pages, number - pages);
 }

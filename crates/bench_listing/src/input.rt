@@ -4,8 +4,8 @@ ghost use Rattle.answers.specs.Answers.{said_count, put_at};
 ghost use Rattle.bench_listing.specs.Listing.{given_in, given, readings_of, listing, listed_readings};
 ghost use Rattle.bench_listing.specs.Calls.{Puts, listed};
 
-use crate::capture::list_capture;
-use crate::text::put_refusal;
+use crate::capture::put_capture;
+use crate::text::Text;
 use answers::Refusal;
 use line_mode::{Found, mode_of};
 
@@ -62,13 +62,15 @@ fn list_input(input: &[u8], readings: &mut [u32], output: &mut [u8]) -> usize
     ensures text { Puts output.old 0 (listing input.now) output.new result }
     ensures readings { readings.new ≡ put_at 0 (listed_readings input.now) readings.old }
 {
+    let mut text = Text::new(output);
     match mode_given(input) {
-        Err(refusal) => put_refusal(output, refusal),
+        Err(refusal) => text.put_refusal(refusal),
         Ok(mode) => {
             let count = decode(&input[1..], readings);
-            list_capture(&readings[..count], mode, output)
+            put_capture(&mut text, mode, &readings[..count]);
         }
     }
+    text.length()
 }
 
 // Lists the input: the text at the head of the output, its readings at the head of the list of readings. Answers the text's length.

@@ -1,116 +1,136 @@
-// The pieces of a listing, each put into the output from an index on; each function answers the index behind its piece.
+// The text of a listing, put together piece by piece.
 ghost use Rattle.std.specs.Prelude.{◌≡◌, ◌+◌, ◌<◌, ◌≤◌, length};
-ghost use Rattle.bench_listing.specs.Calls.{Puts};
 ghost use Rattle.bench_listing.specs.Words.{decimal, hex_digits};
 ghost use Rattle.bench_listing.specs.Listing.{mode_name, first_line, ending_word, attempt_line, last_line, refused_line};
+ghost use Rattle.bench_listing.specs.Texts.{HasRoom, Adds};
 
 use answers::Refusal;
 use line_reader::Ending;
 
-// All of some bytes.
-fn put_bytes(output: &mut [u8], at: usize, bytes: &[u8]) -> usize
-    requires { at + length bytes.now ≤ length output.old }
-    ensures { Puts output.old at bytes.now output.new result }
-{
-    let behind = at + bytes.len();
-    output[at..behind].copy_from_slice(bytes);
-    behind
+// A text at the head of some bytes: it takes up as many of them as its length says.
+#[derive(Drop)]
+pub(crate) struct Text<'a> {
+    bytes: &'a mut [u8],
+    length: usize,
 }
 
-// A number in decimal.
-fn put_decimal(output: &mut [u8], at: usize, number: usize) -> usize
-    requires { (number < 10000) × (at + 4 ≤ length output.old) }
-    ensures text { Puts output.old at (decimal number) output.new result }
-    ensures short { result ≤ at + 4 }
-{
-    let mut digits = [0u8; 20];
-    let count = io::decimal(number as u64, &mut digits);
-    put_bytes(output, at, &digits[..count])
-}
-
-// A word in twelve hexadecimal digits.
-fn put_word(output: &mut [u8], at: usize, word: u64) -> usize
-    requires { at + 12 ≤ length output.old }
-    ensures text { Puts output.old at (hex_digits word) output.new result }
-    ensures long { result ≡ at + 12 }
-{
-    let mut digits = [0u8; 16];
-    let count = io::hex(word % page_word::WIDE, 12, &mut digits);
-    put_bytes(output, at, &digits[..count])
-}
-
-// The name of mode 0 or 1.
-fn put_mode(output: &mut [u8], at: usize, mode: u32) -> usize
-    requires { at + 3 ≤ length output.old }
-    ensures text { Puts output.old at (mode_name mode) output.new result }
-    ensures long { result ≡ at + 3 }
-{
-    if mode == 1 {
-        return put_bytes(output, at, b"LSM");
+impl<'a> Text<'a> {
+    pub(crate) fn new(bytes: &'a mut [u8]) -> Text<'a>
+        ensures same { result.bytes.ghost_name ≡ bytes.entry.ghost_name }
+        ensures bytes { result.bytes.now ≡ bytes.old }
+        ensures empty { result.length ≡ 0 }
+    {
+        Text { bytes, length: 0 }
     }
-    put_bytes(output, at, b"HSM")
-}
 
-// The first line: the mode and the number of readings.
-pub(crate) fn put_first_line(output: &mut [u8], mode: u32, edges: usize) -> usize
-    requires { (edges < 10000) × (20 ≤ length output.old) }
-    ensures text { Puts output.old 0 (first_line mode edges) output.new result }
-    ensures short { result ≤ 20 }
-{
-    let led = put_bytes(output, 0, b"mode ");
-    let named = put_mode(output, led, mode);
-    let edged = put_bytes(output, named, b" edges ");
-    let counted = put_decimal(output, edged, edges);
-    put_bytes(output, counted, b"\n")
-}
+    pub(crate) fn length(&self) -> usize
+        ensures { result ≡ self.now.length }
+    {
+        self.length
+    }
 
-// How an attempt ended.
-fn put_ending(output: &mut [u8], at: usize, ending: Ending) -> usize
-    requires { at + 17 ≤ length output.old }
-    ensures text { Puts output.old at (ending_word ending) output.new result }
-    ensures short { result ≤ at + 17 }
-{
-    match ending {
-        Ending::Good(word) => {
-            let named = put_bytes(output, at, b"good ");
-            put_word(output, named, word)
+    // All of some bytes.
+    fn put(&mut self, piece: &[u8])
+        requires { HasRoom self.old (length piece.now) }
+        ensures { Adds self.old piece.now self.new }
+    {
+        let length = self.length + piece.len();
+        self.bytes[self.length..length].copy_from_slice(piece);
+        self.length = length;
+    }
+
+    // A number in decimal.
+    fn put_decimal(&mut self, number: usize)
+        requires { (number < 10000) × HasRoom self.old 4 }
+        ensures text { Adds self.old (decimal number) self.new }
+        ensures short { self.new.length ≤ self.old.length + 4 }
+    {
+        let mut digits = [0; 20];
+        let count = io::decimal(number as u64, &mut digits);
+        self.put(&digits[..count]);
+    }
+
+    // A word in twelve hexadecimal digits.
+    fn put_word(&mut self, word: u64)
+        requires { HasRoom self.old 12 }
+        ensures text { Adds self.old (hex_digits word) self.new }
+        ensures long { self.new.length ≡ self.old.length + 12 }
+    {
+        let mut digits = [0; 16];
+        let count = io::hex(word % page_word::WIDE, 12, &mut digits);
+        self.put(&digits[..count]);
+    }
+
+    // The name of mode 0 or 1.
+    fn put_mode(&mut self, mode: u32)
+        requires { HasRoom self.old 3 }
+        ensures text { Adds self.old (mode_name mode) self.new }
+        ensures long { self.new.length ≡ self.old.length + 3 }
+    {
+        self.put(if mode == 1 { b"LSM" } else { b"HSM" });
+    }
+
+    // The first line: the mode and the number of readings.
+    pub(crate) fn put_first_line(&mut self, mode: u32, edges: usize)
+        requires { (edges < 10000) × HasRoom self.old 20 }
+        ensures text { Adds self.old (first_line mode edges) self.new }
+        ensures short { self.new.length ≤ self.old.length + 20 }
+    {
+        self.put(b"mode ");
+        self.put_mode(mode);
+        self.put(b" edges ");
+        self.put_decimal(edges);
+        self.put(b"\n");
+    }
+
+    // How an attempt ended.
+    fn put_ending(&mut self, ending: Ending)
+        requires { HasRoom self.old 17 }
+        ensures text { Adds self.old (ending_word ending) self.new }
+        ensures short { self.new.length ≤ self.old.length + 17 }
+    {
+        match ending {
+            Ending::Good(word) => {
+                self.put(b"good ");
+                self.put_word(word);
+            }
+            Ending::Gap => self.put(b"gap"),
+            Ending::Cut => self.put(b"cut"),
+            Ending::Check => self.put(b"check"),
         }
-        Ending::Gap => put_bytes(output, at, b"gap"),
-        Ending::Cut => put_bytes(output, at, b"cut"),
-        Ending::Check => put_bytes(output, at, b"check"),
     }
-}
 
-// An attempt's line: its number, and how it ended.
-pub(crate) fn put_attempt(output: &mut [u8], at: usize, number: usize, ending: Ending) -> usize
-    requires { (number < 10000) × (at + 23 ≤ length output.old) }
-    ensures text { Puts output.old at (attempt_line number ending) output.new result }
-    ensures short { result ≤ at + 23 }
-{
-    let numbered = put_decimal(output, at, number);
-    let spaced = put_bytes(output, numbered, b" ");
-    let told = put_ending(output, spaced, ending);
-    put_bytes(output, told, b"\n")
-}
+    // An attempt's line: its number, and how it ended.
+    pub(crate) fn put_attempt(&mut self, number: usize, ending: Ending)
+        requires { (number < 10000) × HasRoom self.old 23 }
+        ensures text { Adds self.old (attempt_line number ending) self.new }
+        ensures short { self.new.length ≤ self.old.length + 23 }
+    {
+        self.put_decimal(number);
+        self.put(b" ");
+        self.put_ending(ending);
+        self.put(b"\n");
+    }
 
-// The last line: the numbers of good pages and of other attempts.
-pub(crate) fn put_last_line(output: &mut [u8], at: usize, pages: usize, bad: usize) -> usize
-    requires { (pages < 10000) × (bad < 10000) × (at + 20 ≤ length output.old) }
-    ensures { Puts output.old at (last_line pages bad) output.new result }
-{
-    let named = put_bytes(output, at, b"pages ");
-    let counted = put_decimal(output, named, pages);
-    let named_too = put_bytes(output, counted, b" bad ");
-    let counted_too = put_decimal(output, named_too, bad);
-    put_bytes(output, counted_too, b"\n")
-}
+    // The last line: the numbers of good pages and of other attempts.
+    pub(crate) fn put_last_line(&mut self, pages: usize, bad: usize)
+        requires { (pages < 10000) × (bad < 10000) × HasRoom self.old 20 }
+        ensures { Adds self.old (last_line pages bad) self.new }
+    {
+        self.put(b"pages ");
+        self.put_decimal(pages);
+        self.put(b" bad ");
+        self.put_decimal(bad);
+        self.put(b"\n");
+    }
 
-// The one line of an input that is refused.
-pub(crate) fn put_refusal(output: &mut [u8], refusal: Refusal) -> usize
-    requires { 13 ≤ length output.old }
-    ensures { Puts output.old 0 (refused_line refusal) output.new result }
-{
-    let named = put_bytes(output, 0, b"refused ");
-    let numbered = put_decimal(output, named, u8::from(refusal) as usize);
-    put_bytes(output, numbered, b"\n")
+    // The one line of an input that is refused.
+    pub(crate) fn put_refusal(&mut self, refusal: Refusal)
+        requires { HasRoom self.old 13 }
+        ensures { Adds self.old (refused_line refusal) self.new }
+    {
+        self.put(b"refused ");
+        self.put_decimal(usize::from(u8::from(refusal)));
+        self.put(b"\n");
+    }
 }

@@ -1,8 +1,10 @@
-use Rattle.std.proofs.Common.{refl, sym, ap, ◌∙◌, length, length-drop, arith}
+use Rattle.std.proofs.Common.{rules, sym, ap, ◌∙◌, length, length-drop, arith}
 use Rattle.bench_listing.specs.Listing.{readings_of, capture_listing, listing, listed_readings}
-use Rattle.bench_listing.proofs.PlacingLaws.{puts_same}
+use Rattle.bench_listing.specs.Texts.{Adds}
+use Rattle.bench_listing.proofs.TextLaws.{adds_same, all_put}
 use Rattle.bench_listing.proofs.InputLaws.{all_behind, captures, head_taken}
 use Rattle.bench_listing.proofs.input.list_input.Goals as goal
+use Rattle.bench_listing.proofs.input.list_input.Goals.{in-Err, in-Ok}
 
 pub slice_bounds-decode-count : goal.slice_bounds-decode-count
 slice_bounds-decode-count c = (captures _ _ (sym c.in-Ok.ensures)).some
@@ -16,20 +18,24 @@ decode-count-requires c =
     let behind = ap length (all_behind c.args.input.now) in
     let one_less = length-drop 1 c.args.input.now in (omega arith, omega arith)
 
-pub returns-in-Err-clause-text : goal.returns-in-Err-clause-text
+pub returns-clause-text : goal.returns-clause-text
 unfolding listing
-returns-in-Err-clause-text c = rw (sym c.in-Err.ensures) c.put_refusal.ensures
+returns-clause-text c =
+    let whole : Adds c.new-text.result (listing c.args.input.now) c.match-mode_given.text =
+    elim c.match-mode_given.branch [
+      | in-Err w ↦ rw (sym w.in-Err.ensures) (rw w.text-is w.put_refusal.ensures)
+      | in-Ok w ↦
+          let d = w.decode-count.ensures in
+          rw (sym w.in-Ok.ensures) (rw w.text-is
+          (adds_same w.put_capture.ensures (ap (capture_listing _) (head_taken _ _ _ _ d.contents d.count ∙ ap readings_of (all_behind _)))))
+    ]
+    in
+    all_put whole c.new-text.ensures.bytes c.new-text.ensures.empty (search rules) c.length.ensures
 
-pub returns-in-Err-clause-readings : goal.returns-in-Err-clause-readings
+pub returns-clause-readings : goal.returns-clause-readings
 unfolding listed_readings
-returns-in-Err-clause-readings c = rw (sym c.in-Err.ensures) refl
-
-pub returns-in-Ok-clause-text : goal.returns-in-Ok-clause-text
-unfolding listing
-returns-in-Ok-clause-text c =
-    let d = c.decode-count.ensures in
-    rw (sym c.in-Ok.ensures) (puts_same c.list_capture.ensures (ap (capture_listing _) (head_taken _ _ _ _ d.contents d.count ∙ ap readings_of (all_behind _))))
-
-pub returns-in-Ok-clause-readings : goal.returns-in-Ok-clause-readings
-unfolding listed_readings
-returns-in-Ok-clause-readings c = rw (sym c.in-Ok.ensures) (rw all_behind at c.decode-count.ensures.contents)
+returns-clause-readings c =
+    elim c.match-mode_given.branch [
+      | in-Err w ↦ rw (sym w.in-Err.ensures) w.readings-is
+      | in-Ok w ↦ rw (sym w.in-Ok.ensures) (w.readings-is ∙ (rw all_behind at w.decode-count.ensures.contents))
+    ]

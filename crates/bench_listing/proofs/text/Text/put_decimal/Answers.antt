@@ -1,23 +1,23 @@
 use Rattle.std.proofs.Common.{ap, arith, length}
 use Rattle.bench_listing.proofs.NumberLaws.{as_decimal, decimal_short}
-use Rattle.bench_listing.proofs.PlacingLaws.{puts_same}
-use Rattle.bench_listing.proofs.text.put_decimal.Goals as goal
+use Rattle.bench_listing.proofs.TextLaws.{adds_same}
+use Rattle.bench_listing.proofs.text.Text.put_decimal.Goals as goal
 
-pub put_bytes-requires : goal.put_bytes-requires
-put_bytes-requires c =
+pub put-requires : goal.put-requires
+put-requires c =
     let d = c.decimal-count.ensures in
     omega (arith, ap length (as_decimal c.args.number _ _ c.requires.0 d.len d.digits), decimal_short c.args.number)
 
 pub returns-clause-text : goal.returns-clause-text
 returns-clause-text c =
-    let d = c.decimal-count.ensures in puts_same c.put_bytes.ensures (as_decimal c.args.number _ _ c.requires.0 d.len d.digits)
+    let d = c.decimal-count.ensures in adds_same c.put.ensures (as_decimal c.args.number _ _ c.requires.0 d.len d.digits)
 
 pub returns-clause-short : goal.returns-clause-short
 returns-clause-short c =
     let d = c.decimal-count.ensures in
     omega (
       arith,
-      c.put_bytes.ensures.behind,
+      c.put.ensures.puts.behind,
       ap length (as_decimal c.args.number _ _ c.requires.0 d.len d.digits),
       decimal_short c.args.number,
     )
