@@ -1,10 +1,11 @@
 -- The readings are the numbers of the bytes four by four, and a list takes them one by one.
-use Rattle.std.proofs.Common.{◌≡◌, ℕ, zero, suc, ◌+◌, ◌*◌, ◌/◌, ◌<◌, ◌≤◌, List, [], ◌∷◌, length, get_or, set, map, refl, sym, ap, ap₂, ◌∙◌, subst, zero-add, arith}
+use Rattle.std.proofs.Common.{◌≡◌, ℕ, zero, suc, ◌+◌, ◌*◌, ◌/◌, ◌<◌, ◌≤◌, List, [], ◌∷◌, ◌++◌, length, get_or, set, map, take, drop, refl, sym, ap, ap₂, ◌∙◌, zero-add, add-one, length-set, arith}
+use Rattle.std.proofs.Math.Seq.{paste, paste-zero, paste-suc, take-length}
 use Rattle.std.proofs.lemmas.List.{get_or-map, length-map}
 use Rattle.std.specs.Int.{from_le_bytes, w32}
 use Rattle.std.specs.Simd.{first_chunks}
 use Rattle.bench_listing.specs.Listing.{readings_of}
-use Rattle.bench_listing.proofs.PlacingLaws.{Copying, copy_on}
+use Rattle.answers.specs.Answers.{put_at}
 
 too_few : (l : List ℕ) → length l < 4 → readings_of l ≡ []
 unfolding readings_of
@@ -31,14 +32,32 @@ module _ (bytes : List ℕ) (fours : List (List ℕ)) (cut : fours ≡ first_chu
   pub as_many : length fours ≡ length (readings_of bytes)
   as_many = sym (ap length all_read ∙ length-map fours (from_le_bytes w32))
 
-  read_at : (i : ℕ) → i < length fours → get_or (readings_of bytes) i 0 ≡ from_le_bytes w32 (get_or fours i [])
+  pub read_at : (i : ℕ) → i < length fours → get_or (readings_of bytes) i 0 ≡ from_le_bytes w32 (get_or fours i [])
   read_at i h = ap (λ (l : List ℕ). get_or l i 0) all_read ∙ get_or-map (from_le_bytes w32) fours i [] 0 h
 
-  -- One reading more.
-  pub decode_on : (before list : List ℕ) (i value : ℕ) → Copying before 0 (readings_of bytes) list i → length fours ≤ length before → i < length fours
-      → value ≡ from_le_bytes w32 (get_or fours i []) → Copying before 0 (readings_of bytes) (set list i value) (i + 1)
-  decode_on before list i value g room h e =
-      let m = as_many in
-      subst (λ (n : ℕ). Copying before 0 (readings_of bytes) (set list n value) (i + 1)) (zero-add i)
-      (subst (λ (n : ℕ). Copying before 0 (readings_of bytes) (set list (0 + i) n) (i + 1)) (read_at i h ∙ sym e)
-      (copy_on before 0 (readings_of bytes) list i g (omega arith) (omega arith)))
+-- So many readings stand at the head of a list.
+pub record Taken (readings before list : List ℕ) (i : ℕ) : Type 0 where
+  pub most : i ≤ length readings
+  pub contents : list ≡ paste before 0 readings i
+  pub long : length list ≡ length before
+
+pub none_taken : (readings before : List ℕ) → Taken readings before before 0
+none_taken readings before = record { most = omega arith; contents = paste-zero before 0 readings; long = refl }
+
+module _ (readings before list : List ℕ) (i : ℕ) (g : Taken readings before list i) (room : length readings ≤ length before) where
+  pub one_taken : i < length readings → Taken readings before (set list i (get_or readings i 0)) (i + 1)
+  one_taken h =
+      record {
+        most = omega arith;
+        contents =
+            ap₂ (λ (l : List ℕ) (n : ℕ). set l n (get_or readings i 0)) g.contents (sym (zero-add i))
+            ∙ paste-suc before 0 readings i 0 (omega arith) h
+            ∙ ap (paste before 0 readings) (sym (add-one i));
+        long = length-set list i (get_or readings i 0) ∙ g.long;
+      }
+
+  pub all_taken : length readings ≤ i → list ≡ put_at 0 readings before
+  all_taken h =
+      let m = g.most in
+      let all : i ≡ length readings = omega arith in
+      g.contents ∙ ap (paste before 0 readings) all ∙ ap (λ (l : List ℕ). (take 0 before ++ l) ++ drop (0 + length readings) before) (take-length readings)

@@ -1,5 +1,5 @@
 -- Pieces put one after another into a text are put at once.
-use Rattle.std.proofs.Common.{◌≡◌, ℕ, List, [], ◌++◌, length, ◌≤◌, refl, sym, subst, ◌∙◌}
+use Rattle.std.proofs.Common.{◌≡◌, ℕ, List, [], ◌++◌, length, ◌≤◌, ◌+◌, refl, sym, subst, ◌∙◌, arith}
 use Rattle.bench_listing.specs.Calls.{Puts}
 use Rattle.bench_listing.specs.declared.text.Text.{Text}
 use Rattle.bench_listing.specs.Texts.{Adds}
@@ -11,6 +11,10 @@ module _ {before : Text} {piece : List ℕ} {after : Text} (p : Adds before piec
 
   pub adds_then : {more : List ℕ} {last : Text} → Adds after more last → Adds before (piece ++ more) last
   adds_then q = record { same = q.same ∙ p.same; puts = puts_then p.puts q.puts }
+
+-- A text gets no longer than its piece is.
+pub adds_short : {before : Text} {piece : List ℕ} {after : Text} → Adds before piece after → {n : ℕ} → length piece ≤ n → after.length ≤ before.length + n
+adds_short p h = let b = p.puts.behind in omega arith
 
 -- Nothing is put by leaving a text as it is.
 pub adds_none : (text : Text) → text.length ≤ length text.bytes.now → Adds text [] text

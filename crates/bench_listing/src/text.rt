@@ -65,7 +65,7 @@ impl<'a> Text<'a> {
     fn put_mode(&mut self, mode: u32)
         requires { HasRoom self.old 3 }
         ensures text { Adds self.old (mode_name mode) self.new }
-        ensures long { self.new.length ≡ self.old.length + 3 }
+        ensures short { self.new.length ≤ self.old.length + 3 }
     {
         self.put(if mode == 1 { b"LSM" } else { b"HSM" });
     }
