@@ -29,7 +29,8 @@ pub(crate) fn reading_of(cell: u64) -> u32 {
     (cell % 4294967296) as u32
 }
 
-// An entry of a state or a burst: above 65 535 it counts as 65 535.
+// An entry of a state or a burst: above 65 535 it counts as 65 535. (With mode_of it would be one generic function only over a trait that
+// has the greatest number of a type, and std has none.)
 pub(crate) fn symbol_of(cell: u64) -> u16 {
     u16::try_from(cell).unwrap_or(u16::MAX)
 }

@@ -9,7 +9,7 @@ use std::alloc::{AllocError, Global};
 // The cells of a message, and of the messages of the longest run.
 const MESSAGE_CELLS: usize = 3;
 
-const MOST_MESSAGE_CELLS: usize = 192;
+const MOST_MESSAGE_CELLS: usize = 64 * MESSAGE_CELLS;
 
 const PARITY_SYMBOLS: usize = 44;
 

@@ -12,10 +12,10 @@ use std::io;
 use std::io::{ErrorKind, Read};
 
 // The bytes of 65 536 cells.
-const MOST_BYTES: u64 = 524288;
+const MOST_BYTES: u64 = 8 * 65536;
 
-// Reads until all bytes are there that are read at most, the input ends or a read fails. What came before a failure is answered like what
-// comes before an end.
+// Reads to the end of the input, to the most that is read or to a read that fails. What came before a failure is answered like what comes
+// before an end; only where the memory has run out is nothing answered.
 fn take_input(alloc: Global, source: impl Read + Drop) -> io::Result<Vec<u8>> {
     let mut input = Vec::new(alloc);
     match source.take(MOST_BYTES).read_to_end(&mut input) {
