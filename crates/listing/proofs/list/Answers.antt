@@ -7,16 +7,10 @@ use Rattle.listing.proofs.list.Goals as goal
 pub unwrap-requires : goal.unwrap-requires
 unwrap-requires c = rw (answered _ _ _ _ _ (omega arith) (omega arith) c.list.ensures.says c.list.ensures.output).told
 
-pub returns-clause-prefix_len : goal.returns-clause-prefix_len
-returns-clause-prefix_len c =
+pub returns : goal.returns
+returns c =
     let found = answered _ _ _ _ _ (omega arith) (omega arith) c.list.ensures.says c.list.ensures.output in
     let told = found.told in
     let fits = found.fits in
     let counted : c.unwrap.result ≡ length (listing c.args.input.now) = cc in
-    (omega arith, sym (length-take-le _ _ (omega arith)))
-
-pub returns-clause-output_after : goal.returns-clause-output_after
-returns-clause-output_after c =
-    let found = answered _ _ _ _ _ (omega arith) (omega arith) c.list.ensures.says c.list.ensures.output in
-    let told = found.told in
-    let counted : c.unwrap.result ≡ length (listing c.args.input.now) = cc in rw counted found.text
+    record { prefix_len = (omega arith, sym (length-take-le _ _ (omega arith))); output_after = rw counted found.text }
