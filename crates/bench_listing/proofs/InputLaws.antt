@@ -11,10 +11,9 @@ use lib.Seq.{drop-cons, take_at}
 use Rattle.std.proofs.lemmas.List.{take_all}
 use Rattle.answers.specs.Answers.{put_at}
 use Rattle.answers.proofs.PutAtStart.{put_at_start}
-use Rattle.std.specs.Prelude.{Ok, Err}
+use Rattle.std.specs.Prelude.{Ok, Err, Option, Some, None}
 use Rattle.answers.specs.declared.Refusal.TheVariants.{Room, Mode, Odd}
-use Rattle.line_mode.specs.declared.modes.Found.{Found}
-use Rattle.line_mode.specs.declared.modes.Found.TheVariants.{Known, Unknown}
+use Rattle.line_mode.specs.declared.modes.LineMode.{LineMode}
 use Rattle.line_mode.specs.Modes.{mode_of, by_mode}
 use Rattle.bench_listing.specs.Listing.{given_in, given}
 
@@ -28,11 +27,11 @@ nothing_given [] h = refl
 nothing_given (x ∷ rest) h = absurd (omega arith)
 
 -- By the mode that the first byte names.
-pub by_mode_law : (input : List ℕ) (mode : ℕ) (found : Found) → found ≡ mode_of mode → mode ≡ get_or input 0 0 → 0 < length input
+pub by_mode_law : (input : List ℕ) (mode : ℕ) (found : Option LineMode) → found ≡ mode_of mode → mode ≡ get_or input 0 0 → 0 < length input
     → by_mode found (λ m. given_in mode (drop 1 input)) (Err Mode) ≡ given input
 unfolding given
 by_mode_law input mode found named first some =
-    ap (λ (f : Found). by_mode f (λ m. given_in mode (drop 1 input)) (Err Mode)) named ∙ ap given parts
+    ap (λ (f : Option LineMode). by_mode f (λ m. given_in mode (drop 1 input)) (Err Mode)) named ∙ ap given parts
   where
     parts : mode ∷ drop 1 input ≡ input
     parts = ap (λ (m : ℕ). m ∷ drop 1 input) first ∙ sym (drop-cons input 0 0 some)
@@ -47,12 +46,12 @@ unfolding given
 captures [] mode h = absurd (let z : ◌≡◌ {A = ℕ} 0 1 = cc h in omega arith)
 captures (m ∷ bytes) mode h = by (mode_of m) (ltb 32001 (length (m ∷ bytes))) refl (eqb (length bytes % 4) 0) h
   where
-    by : (found : Found) (t : Bool) → ltb 32001 (length (m ∷ bytes)) ≡ t → (u : Bool)
+    by : (found : Option LineMode) (t : Bool) → ltb 32001 (length (m ∷ bytes)) ≡ t → (u : Bool)
         → by_mode found (λ k. cond t (Err Room) (cond u (Ok m) (Err Odd))) (Err Mode) ≡ Ok mode → Captures (m ∷ bytes)
-    by Unknown t f u h = absurd (let z : ◌≡◌ {A = ℕ} 0 1 = cc h in omega arith)
-    by (Known k) true f u h = absurd (let z : ◌≡◌ {A = ℕ} 0 1 = cc h in omega arith)
-    by (Known k) false f false h = absurd (let z : ◌≡◌ {A = ℕ} 0 1 = cc h in omega arith)
-    by (Known k) false f true h = record { some = omega arith; short = ltb-false 32001 (length (m ∷ bytes)) f }
+    by None t f u h = absurd (let z : ◌≡◌ {A = ℕ} 0 1 = cc h in omega arith)
+    by (Some k) true f u h = absurd (let z : ◌≡◌ {A = ℕ} 0 1 = cc h in omega arith)
+    by (Some k) false f false h = absurd (let z : ◌≡◌ {A = ℕ} 0 1 = cc h in omega arith)
+    by (Some k) false f true h = record { some = omega arith; short = ltb-false 32001 (length (m ∷ bytes)) f }
 
 -- The head of a list that was put there.
 pub head_taken : (entries before list : List ℕ) (count : ℕ) → list ≡ put_at 0 entries before → count ≡ length entries → take count list ≡ entries

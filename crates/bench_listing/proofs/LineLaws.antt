@@ -1,12 +1,13 @@
 -- No attempt's line is longer than 23 bytes, and the outer lines are no longer than 20.
+use Rattle.line_reader.specs.Endings.{Ending}
+use Rattle.std.specs.Prelude.{Ok, Err}
 use mathlib.Core.Bool.{Bool, true, false, cond}
 use mathlib.Core.List.{List, ◌++◌}
 use Prim.Native.Nat.{ℕ, ◌≤◌, ◌+◌}
 use native.Mathlib.Omega.{arith}
 use lib.Dec.{eqb}
 use lib.ListN.{length, length-append}
-use Rattle.line_reader.specs.declared.endings.Ending.{Ending}
-use Rattle.line_reader.specs.declared.endings.Ending.TheVariants.{Good, Gap, Cut, Check}
+use Rattle.line_reader.specs.declared.endings.Broken.TheVariants.{Gap, Cut, Check}
 use Rattle.answers.specs.declared.Refusal.{Refusal}
 use Rattle.answers.specs.Numbers.{number_of}
 use Rattle.bench_listing.specs.Words.{text, decimal}
@@ -14,10 +15,10 @@ use Rattle.bench_listing.specs.Listing.{mode_name, first_line, ending_word, atte
 use Rattle.bench_listing.proofs.NumberLaws.{decimal_short, hex_length}
 
 pub ending_short : (ending : Ending) → length (ending_word ending) ≤ 17
-ending_short (Good word) = let h = hex_length word in omega arith
-ending_short Gap = omega arith
-ending_short Cut = omega arith
-ending_short Check = omega arith
+ending_short (Ok word) = let h = hex_length word in omega arith
+ending_short (Err Gap) = omega arith
+ending_short (Err Cut) = omega arith
+ending_short (Err Check) = omega arith
 
 -- Two pieces, and three.
 two : (a b : List ℕ) (k n : ℕ) → length a ≤ k → length b ≤ n → length (a ++ b) ≤ k + n

@@ -1,4 +1,5 @@
 -- No listing is longer than 184 040 bytes.
+use Rattle.line_reader.specs.Endings.{Ending}
 use mathlib.Core.Path.{◌≡◌, refl, ap, ◌∙◌}
 use mathlib.Core.List.{List, [], ◌∷◌, ◌++◌}
 use Prim.Native.Nat.{ℕ, zero, suc, ◌+◌, ◌*◌, ◌≤◌}
@@ -11,11 +12,8 @@ use Rattle.answers.specs.declared.Refusal.{Refusal}
 use Rattle.answers.specs.declared.Answer.TheVariants.{Refused, Number}
 use Rattle.answers.proofs.OneAnswer.{one_answer}
 use Rattle.answers.proofs.PutAtStart.{put_at_start}
-use Rattle.line_reader.specs.declared.endings.Ending.{Ending}
-use Rattle.line_captures.specs.declared.captures.ReadOutcome.{ReadOutcome}
-use Rattle.line_captures.specs.declared.captures.ReadOutcome.TheVariants.{UnknownMode, PastTheEnd, AtTheEnd, Attempt}
-use Rattle.line_captures.specs.Captures.{read_of, onwards, attempts_from, attempts}
-use Rattle.std.specs.Prelude.{Result, Ok, Err}
+use Rattle.line_captures.specs.Captures.{read_of, onwards, attempts_from, attempts, ReadOutcome}
+use Rattle.std.specs.Prelude.{Some, None, Result, Ok, Err}
 use Rattle.bench_listing.specs.Listing.{Given, given, readings_of, attempt_line, attempt_lines, good_ones, bad_ones, first_line, last_line, capture_listing, listing_by, listing}
 use Rattle.bench_listing.specs.Calls.{listed}
 use Rattle.bench_listing.proofs.LineLaws.{attempt_short, first_short, last_short, refused_short}
@@ -27,10 +25,9 @@ attempts_few zero mode capture place = omega arith
 attempts_few (suc n) mode capture place = by (read_of mode capture place) (attempts_few n mode capture)
   where
     by : (outcome : ReadOutcome) → ((next : ℕ) → length (attempts_from n mode capture next) ≤ n) → length (onwards outcome (attempts_from n mode capture)) ≤ suc n
-    by UnknownMode few = omega arith
-    by PastTheEnd few = omega arith
-    by AtTheEnd few = omega arith
-    by (Attempt ending next) few = let h = few next in omega arith
+    by (Err refusal) few = omega arith
+    by (Ok None) few = omega arith
+    by (Ok (Some a)) few = let h = few a.next in omega arith
 
 lines_short : (n : ℕ) (l : List Ending) → length (attempt_lines n l) ≤ 23 * length l
 unfolding attempt_lines

@@ -1,15 +1,13 @@
 -- The walk from attempt to attempt: after each, its line stands behind those before it.
+use Rattle.line_reader.specs.Endings.{Ending}
+use Rattle.std.specs.Prelude.{Some, None, Ok, Err}
 use mathlib.Core.Path.{◌≡◌, refl, sym, ap, ap₂, ◌∙◌}
 use mathlib.Core.Bool.{cond}
 use mathlib.Core.List.{List, [], ◌∷◌, ◌++◌, append-nil, append_assoc}
 use Prim.Native.Nat.{ℕ, zero, suc, ◌+◌, ◌-◌, ◌*◌, ◌≤◌}
 use native.Mathlib.Omega.{arith}
 use lib.ListN.{length}
-use Rattle.line_reader.specs.declared.endings.Ending.{Ending}
-use Rattle.line_reader.specs.declared.endings.Ending.TheVariants.{Good, Gap, Cut, Check}
-use Rattle.line_captures.specs.declared.captures.ReadOutcome.{ReadOutcome}
-use Rattle.line_captures.specs.declared.captures.ReadOutcome.TheVariants.{UnknownMode, PastTheEnd, AtTheEnd, Attempt}
-use Rattle.line_captures.specs.Captures.{read_of, onwards, attempts_from, attempts}
+use Rattle.line_captures.specs.Captures.{read_of, onwards, attempts_from, attempts, ReadOutcome, attempt}
 use Rattle.line_captures.proofs.Walk.{attempt_forward}
 use Rattle.bench_listing.specs.declared.text.Text.{Text}
 use Rattle.bench_listing.specs.Texts.{Adds}
@@ -65,32 +63,29 @@ module _ (n : ℕ) (ending : Ending) (rest : List Ending) where
   bad_more = refl
 
 one_of_two : (ending : Ending) → cond (is_good ending) 1 0 + cond (is_good ending) 0 1 ≡ 1
-one_of_two (Good word) = refl
-one_of_two Gap = refl
-one_of_two Cut = refl
-one_of_two Check = refl
+one_of_two (Ok word) = refl
+one_of_two (Err broken) = refl
 
 -- A call that brings an attempt, and one that brings none.
-one_more : (more mode : ℕ) (capture : List ℕ) (place : ℕ) (ending : Ending) (next : ℕ) → read_of mode capture place ≡ Attempt ending next
+one_more : (more mode : ℕ) (capture : List ℕ) (place : ℕ) (ending : Ending) (next : ℕ) → read_of mode capture place ≡ attempt ending next
     → attempts_from (suc more) mode capture place ≡ ending ∷ attempts_from more mode capture next
 unfolding attempts_from
 one_more more mode capture place ending next h = rw h
 
 pub no_more : (mode : ℕ) (capture : List ℕ) (place : ℕ) (outcome : ReadOutcome) → outcome ≡ read_of mode capture place
-    → ((ending : Ending) (next : ℕ) → outcome ≡ Attempt ending next → ⊥) → (more : ℕ) → attempts_from more mode capture place ≡ []
+    → ((ending : Ending) (next : ℕ) → outcome ≡ attempt ending next → ⊥) → (more : ℕ) → attempts_from more mode capture place ≡ []
 unfolding attempts_from
 no_more mode capture place outcome e none zero = refl
 no_more mode capture place outcome e none (suc more) = rw (sym e) (by outcome none)
   where
-    by : (outcome : ReadOutcome) → ((ending : Ending) (next : ℕ) → outcome ≡ Attempt ending next → ⊥) → onwards outcome (attempts_from more mode capture) ≡ []
-    by UnknownMode none = refl
-    by PastTheEnd none = refl
-    by AtTheEnd none = refl
-    by (Attempt ending next) none = absurd (none ending next refl)
+    by : (outcome : ReadOutcome) → ((ending : Ending) (next : ℕ) → outcome ≡ attempt ending next → ⊥) → onwards outcome (attempts_from more mode capture) ≡ []
+    by (Err refusal) none = refl
+    by (Ok None) none = refl
+    by (Ok (Some a)) none = absurd (none a.ending a.next refl)
 
 module _ (mode : ℕ) (capture : List ℕ) (before text : Text) (place attempted pages : ℕ) (w : Walking mode capture before text place attempted pages) where
   -- One attempt on.
-  module _ (ending : Ending) (next : ℕ) (brought : read_of mode capture place ≡ Attempt ending next) (good : ℕ) (counted : good ≡ cond (is_good ending) 1 0)
+  module _ (ending : Ending) (next : ℕ) (brought : read_of mode capture place ≡ attempt ending next) (good : ℕ) (counted : good ≡ cond (is_good ending) 1 0)
       (after : Text) (p : Adds text (attempt_line (attempted + 1) ending) after) (short : after.length ≤ text.length + 23)
     where
       pub walk_on : Walking mode capture before after next (attempted + 1) (pages + good)

@@ -1,12 +1,12 @@
 -- 01, "The bench listing".
+use Rattle.line_reader.specs.Endings.{Ending}
 use Rattle.std.specs.Prelude.{ℕ, ◌+◌, ◌*◌, ◌%◌, Bool, true, false, List, [], ◌∷◌, ◌++◌, Result, Ok, Err, length, drop, if◌then◌else◌}
 use Rattle.answers.specs.Choices.{◌<?◌, ◌=?◌}
 use Rattle.answers.specs.declared.Refusal.{Refusal}
 use Rattle.answers.specs.declared.Refusal.TheVariants.{Room, Mode, Odd}
 use Rattle.answers.specs.Numbers.{number_of}
 use Rattle.line_mode.specs.Modes.{mode_of, by_mode}
-use Rattle.line_reader.specs.declared.endings.Ending.{Ending}
-use Rattle.line_reader.specs.declared.endings.Ending.TheVariants.{Good, Gap, Cut, Check}
+use Rattle.line_reader.specs.declared.endings.Broken.TheVariants.{Gap, Cut, Check}
 use Rattle.line_captures.specs.Captures.{attempts}
 use Rattle.bench_listing.specs.Words.{text, decimal, hex_digits}
 
@@ -40,10 +40,10 @@ readings_of [] = []
 
 -- "The zero page alone gives `1 good 000000000000` (12 hex digits, small letters) as its line; other words are `gap` and `check`", and `cut`.
 abbrev pub ending_word : Ending → List ℕ
-ending_word (Good word) = text "good " ++ hex_digits word
-ending_word Gap = text "gap"
-ending_word Cut = text "cut"
-ending_word Check = text "check"
+ending_word (Ok word) = text "good " ++ hex_digits word
+ending_word (Err Gap) = text "gap"
+ending_word (Err Cut) = text "cut"
+ending_word (Err Check) = text "check"
 
 -- "Each attempt has one line, numbered from 1."
 unfoldable pub attempt_line : (n : ℕ) → Ending → List ℕ
@@ -56,10 +56,8 @@ attempt_lines n (ending ∷ rest) = attempt_line n ending ++ attempt_lines (n + 
 
 -- Whether an attempt gave a good page.
 abbrev pub is_good : Ending → Bool
-is_good (Good word) = true
-is_good Gap = false
-is_good Cut = false
-is_good Check = false
+is_good (Ok word) = true
+is_good (Err broken) = false
 
 -- The number of good pages.
 unfoldable pub good_ones : List Ending → ℕ

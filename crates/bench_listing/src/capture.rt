@@ -4,7 +4,6 @@ ghost use Rattle.bench_listing.specs.Listing.{is_good, capture_listing};
 ghost use Rattle.bench_listing.specs.Texts.{HasRoom, Adds};
 
 use crate::text::Text;
-use line_captures::ReadOutcome;
 use line_reader::Ending;
 
 // One for a good page, and none for another attempt.
@@ -12,7 +11,7 @@ fn good_one(ending: Ending) -> usize
     ensures count { result ≡ (if is_good ending then 1 else 0) }
     ensures few { result ≤ 1 }
 {
-    usize::from(matches!(ending, Ending::Good(_)))
+    usize::from(ending.is_ok())
 }
 
 // The first line, a line for each attempt from place to next place, and the last line.
@@ -24,11 +23,11 @@ pub(crate) fn put_capture(text: &mut Text, mode: u32, capture: &[u32])
     let mut place = 0;
     let mut number = 0;
     let mut pages = 0;
-    while let ReadOutcome::Attempt { ending, next } = line_captures::read(capture, place, mode) {
+    while let Ok(Some(attempt)) = line_captures::read(capture, place, mode) {
         number += 1;
-        pages += good_one(ending);
-        text.put_attempt(number, ending);
-        place = next;
+        pages += good_one(attempt.ending);
+        text.put_attempt(number, attempt.ending);
+        place = attempt.next;
     }
     text.put_last_line(pages, number - pages);
 }

@@ -7,7 +7,7 @@ ghost use Rattle.bench_listing.specs.Calls.{Puts, listed};
 use crate::capture::put_capture;
 use crate::text::Text;
 use answers::Refusal;
-use line_mode::{Found, mode_of};
+use line_mode::mode_of;
 
 // The most readings of a capture.
 pub const MOST_READINGS: usize = 8000;
@@ -51,8 +51,8 @@ fn mode_given(input: &[u8]) -> Result<u32, Refusal>
     };
     let mode = u32::from(*first);
     match mode_of(mode) {
-        Found::Known(_) => given_in(mode, bytes),
-        Found::Unknown => Err(Refusal::Mode),
+        Some(_) => given_in(mode, bytes),
+        None => Err(Refusal::Mode),
     }
 }
 

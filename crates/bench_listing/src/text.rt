@@ -5,7 +5,7 @@ ghost use Rattle.bench_listing.specs.Listing.{mode_name, first_line, ending_word
 ghost use Rattle.bench_listing.specs.Texts.{HasRoom, Adds};
 
 use answers::Refusal;
-use line_reader::Ending;
+use line_reader::{Broken, Ending};
 
 // A text at the head of some bytes: it takes up as many of them as its length says.
 #[derive(Drop)]
@@ -90,13 +90,13 @@ impl<'a> Text<'a> {
         ensures short { self.new.length ≤ self.old.length + 17 }
     {
         match ending {
-            Ending::Good(word) => {
+            Ok(word) => {
                 self.put(b"good ");
                 self.put_word(word);
             }
-            Ending::Gap => self.put(b"gap"),
-            Ending::Cut => self.put(b"cut"),
-            Ending::Check => self.put(b"check"),
+            Err(Broken::Gap) => self.put(b"gap"),
+            Err(Broken::Cut) => self.put(b"cut"),
+            Err(Broken::Check) => self.put(b"check"),
         }
     }
 

@@ -1,9 +1,9 @@
 // The calls that take lists: each lends lists of its own, and hands back its answer cells.
 use crate::cells::{mode_of, reading_of, symbol_of};
 use answers::{Answer, Refusal};
-use line_captures::ReadOutcome;
-use line_mode::{Found, mode_of as line_mode_of};
-use line_reader::Reader;
+use line_captures::{ReadOutcome, answer_to_read};
+use line_mode::mode_of as line_mode_of;
+use line_reader::{Reader, answer_to_heard};
 use std::alloc::{AllocError, Global};
 
 // The cells of a message, and of the messages of the longest run.
@@ -41,20 +41,20 @@ pub(crate) fn write(
     list: &[u64],
 ) -> Result<Vec<u64>, AllocError> {
     let mut entries: Vec<u32> = list.iter().copied().map(reading_of).collect(alloc)?;
-    let answer = line_writer::write(
+    let counted = line_writer::write(
         &mut entries,
         place as usize,
         mode_of(mode),
         word,
         reading_of(first),
     );
-    with_list(alloc, answer, &entries)
+    with_list(alloc, Answer::from(counted), &entries)
 }
 
 // Where the next attempt opens; the place itself if there is none.
 fn next_place(outcome: ReadOutcome, place: usize) -> usize {
     match outcome {
-        ReadOutcome::Attempt { ending: _, next } => next,
+        Ok(Some(attempt)) => attempt.next,
         _ => place,
     }
 }
@@ -69,7 +69,7 @@ pub(crate) fn read(
     let readings: Vec<u32> = capture.iter().copied().map(reading_of).collect(alloc)?;
     let outcome = line_captures::read(&readings, place as usize, mode_of(mode));
     let next = next_place(outcome, place as usize);
-    Ok(vec![in alloc; outcome.answer().packed(), next as u64]?)
+    Ok(vec![in alloc; answer_to_read(outcome).packed(), next as u64]?)
 }
 
 // Operation 6: an answer to each event, from a fresh device on.
@@ -81,14 +81,14 @@ pub(crate) fn run(alloc: Global, events: &[u64]) -> Result<Vec<u64>, AllocError>
 
 // Operation 7: what a reader says at each reading, from a fresh one on.
 pub(crate) fn edges(alloc: Global, mode: u64, readings: &[u64]) -> Result<Vec<u64>, AllocError> {
-    let Found::Known(mode) = line_mode_of(mode_of(mode)) else {
+    let Some(mode) = line_mode_of(mode_of(mode)) else {
         return one(alloc, Answer::Refused(Refusal::Mode));
     };
     let mut told = Vec::with_capacity(alloc, readings.len())?;
     let mut reader = Reader::Fresh;
     for reading in readings {
         let step = reader.edge(mode, reading_of(*reading));
-        told.push(step.heard.answer().packed())?;
+        told.push(answer_to_heard(step.heard).packed())?;
         reader = step.reader;
     }
     Ok(told)

@@ -1,4 +1,6 @@
 -- Walking a capture edge by edge: what is left to find is the same after each edge that settles nothing.
+use Rattle.line_reader.specs.Endings.{Ending}
+use Rattle.std.specs.Prelude.{Some, None, Err}
 use mathlib.Core.Path.{◌≡◌, refl, sym, ap, ap₂, ◌∙◌}
 use mathlib.Core.Bool.{Bool, true, false, cond}
 use mathlib.Core.List.{List, [], ◌∷◌}
@@ -10,9 +12,7 @@ use lib.Dec.{eqb}
 use lib.ListN.{length, get_or, drop, drop_of_length-le}
 use lib.Seq.{drop-cons}
 use Rattle.line_mode.specs.declared.modes.LineMode.{LineMode}
-use Rattle.line_reader.specs.declared.endings.Ending.{Ending}
-use Rattle.line_reader.specs.declared.endings.Ending.TheVariants.{Gap, Cut}
-use Rattle.line_reader.specs.declared.endings.Heard.TheVariants.{Nothing, Ended}
+use Rattle.line_reader.specs.declared.endings.Broken.TheVariants.{Gap, Cut}
 use Rattle.line_reader.specs.declared.reader.Reader.{Reader}
 use Rattle.line_reader.specs.declared.reader.Reader.TheVariants.{Fresh, Open, Dropping}
 use Rattle.line_reader.specs.declared.reader.Step.{Step}
@@ -22,8 +22,7 @@ use Rattle.line_mode.specs.Clock.{time_between}
 use Rattle.line_mode.specs.Gaps.{judgement_of}
 use Rattle.line_reader.specs.Pattern.{asks}
 use Rattle.line_reader.specs.Reading.{step, with_bit, page_end, arrives, goes_on, edge_of, drops_on}
-use Rattle.line_captures.specs.declared.captures.ReadOutcome.TheVariants.{Attempt}
-use Rattle.line_captures.specs.Captures.{is_open, opens_at, attempt_of}
+use Rattle.line_captures.specs.Captures.{is_open, opens_at, attempt_of, attempt}
 
 -- One edge of the tail.
 here : (tail : List ℕ) (i : ℕ) → i < length tail → drop i tail ≡ get_or tail i 0 ∷ drop (i + 1) tail
@@ -38,11 +37,11 @@ module _ (m : LineMode) (r : Reader) (x : ℕ) (rest : List ℕ) (at : ℕ) wher
   unfolding opens_at
   opens_later h = rw h
 
-  pub attempt_on : (edge_of m r x).heard ≡ Nothing → attempt_of m r (x ∷ rest) at ≡ attempt_of m (edge_of m r x).reader rest (at + 1)
+  pub attempt_on : (edge_of m r x).heard ≡ None → attempt_of m r (x ∷ rest) at ≡ attempt_of m (edge_of m r x).reader rest (at + 1)
   unfolding attempt_of
   attempt_on h = rw h
 
-  pub attempt_ends : (ending : Ending) → (edge_of m r x).heard ≡ Ended ending → attempt_of m r (x ∷ rest) at ≡ Attempt ending (opens_at m r (x ∷ rest) at)
+  pub attempt_ends : (ending : Ending) → (edge_of m r x).heard ≡ Some ending → attempt_of m r (x ∷ rest) at ≡ attempt ending (opens_at m r (x ∷ rest) at)
   unfolding attempt_of
   attempt_ends ending h = rw h
 
@@ -50,7 +49,7 @@ opens_end : (m : LineMode) (r : Reader) (tail : List ℕ) (at i : ℕ) → lengt
 unfolding opens_at
 opens_end m r tail at i h = rw (drop_of_length-le tail h)
 
-attempt_end : (m : LineMode) (r : Reader) (tail : List ℕ) (at i : ℕ) → length tail ≤ i → attempt_of m r (drop i tail) at ≡ Attempt Cut at
+attempt_end : (m : LineMode) (r : Reader) (tail : List ℕ) (at i : ℕ) → length tail ≤ i → attempt_of m r (drop i tail) at ≡ attempt (Err Cut) at
 unfolding attempt_of opens_at
 attempt_end m r tail at i h = rw (drop_of_length-le tail h)
 
@@ -89,7 +88,7 @@ try_start : (m : LineMode) (tail : List ℕ) (place : ℕ) → Trying m tail pla
 try_start m tail place = record { most = omega arith; same = ap (attempt_of m Fresh tail) (sym (add-zero place)) }
 
 module _ (m : LineMode) (tail : List ℕ) (place : ℕ) (reader : Reader) (i : ℕ) (t : Trying m tail place reader i) where
-  try_on : (next : Reader) → next ≡ (edge_of m reader (get_or tail i 0)).reader → (edge_of m reader (get_or tail i 0)).heard ≡ Nothing → i < length tail
+  try_on : (next : Reader) → next ≡ (edge_of m reader (get_or tail i 0)).reader → (edge_of m reader (get_or tail i 0)).heard ≡ None → i < length tail
       → Trying m tail place next (i + 1)
   try_on next e n h =
       record {
@@ -100,16 +99,16 @@ module _ (m : LineMode) (tail : List ℕ) (place : ℕ) (reader : Reader) (i : �
             ∙ ap₂ (λ (r : Reader) (k : ℕ). attempt_of m r (drop (i + 1) tail) k) (sym e) (add_assoc place i 1);
       }
 
-  pub tried : (next : Reader) (ending : Ending) → next ≡ (edge_of m reader (get_or tail i 0)).reader → (edge_of m reader (get_or tail i 0)).heard ≡ Ended ending
+  pub tried : (next : Reader) (ending : Ending) → next ≡ (edge_of m reader (get_or tail i 0)).reader → (edge_of m reader (get_or tail i 0)).heard ≡ Some ending
       → i < length tail
-      → attempt_of m Fresh tail place ≡ Attempt ending (cond (is_open next) (place + i) (opens_at m next (drop (i + 1) tail) (place + (i + 1))))
+      → attempt_of m Fresh tail place ≡ attempt ending (cond (is_open next) (place + i) (opens_at m next (drop (i + 1) tail) (place + (i + 1))))
   unfolding opens_at
   tried next ending e n h =
       t.same ∙ ap (λ (l : List ℕ). attempt_of m reader l (place + i)) (here tail i h)
       ∙ attempt_ends m reader (get_or tail i 0) (drop (i + 1) tail) (place + i) ending n
-      ∙ ap₂ (λ (r : Reader) (k : ℕ). Attempt ending (cond (is_open r) (place + i) (opens_at m r (drop (i + 1) tail) k))) (sym e) (add_assoc place i 1)
+      ∙ ap₂ (λ (r : Reader) (k : ℕ). attempt ending (cond (is_open r) (place + i) (opens_at m r (drop (i + 1) tail) k))) (sym e) (add_assoc place i 1)
 
-  pub ran_out : length tail ≤ i → attempt_of m Fresh tail place ≡ Attempt Cut (place + i)
+  pub ran_out : length tail ≤ i → attempt_of m Fresh tail place ≡ attempt (Err Cut) (place + i)
   ran_out h = t.same ∙ attempt_end m reader tail (place + i) i h
 
 -- The first edge opens the attempt,
@@ -123,21 +122,21 @@ record StillOpen (x : ℕ) (r : Reader) : Type 0 where
   bits : ℕ
   is : r ≡ Open at x bits
 
-still_open : (m : LineMode) (at bits x : ℕ) (j : Judgement) → (goes_on m at bits x j).heard ≡ Nothing → StillOpen x (goes_on m at bits x j).reader
+still_open : (m : LineMode) (at bits x : ℕ) (j : Judgement) → (goes_on m at bits x j).heard ≡ None → StillOpen x (goes_on m at bits x j).reader
 unfolding goes_on arrives
 still_open m at bits x Quiet h = absurd (let z : ◌≡◌ {A = ℕ} 0 1 = cc h in omega arith)
 still_open m at bits x Unfit h = absurd (let z : ◌≡◌ {A = ℕ} 0 1 = cc h in omega arith)
 still_open m at bits x (Positions k) h = by (asks m at k) (eqb (at + k) 157) h
   where
-    by : (a e : Bool) → (cond a (cond e (step (Ended (page_end (with_bit at k bits))) (Dropping x)) (step Nothing (Open (at + k) x (with_bit at k bits)))) (step (Ended Gap) (Dropping x))).heard ≡ Nothing
-        → StillOpen x (cond a (cond e (step (Ended (page_end (with_bit at k bits))) (Dropping x)) (step Nothing (Open (at + k) x (with_bit at k bits)))) (step (Ended Gap) (Dropping x))).reader
+    by : (a e : Bool) → (cond a (cond e (step (Some (page_end (with_bit at k bits))) (Dropping x)) (step None (Open (at + k) x (with_bit at k bits)))) (step (Some (Err Gap)) (Dropping x))).heard ≡ None
+        → StillOpen x (cond a (cond e (step (Some (page_end (with_bit at k bits))) (Dropping x)) (step None (Open (at + k) x (with_bit at k bits)))) (step (Some (Err Gap)) (Dropping x))).reader
     by true true h = absurd (let z : ◌≡◌ {A = ℕ} 0 1 = cc h in omega arith)
     by true false h = record { at = at + k; bits = with_bit at k bits; is = refl }
     by false e h = absurd (let z : ◌≡◌ {A = ℕ} 0 1 = cc h in omega arith)
 
 module _ (m : LineMode) (tail : List ℕ) (place at last bits i : ℕ) (t : Trying m tail place (Open at last bits) i) (h : i < length tail) where
   -- So the attempt's numbers after it are those that its reader holds.
-  pub try_further : (s : Step) → s ≡ edge_of m (Open at last bits) (get_or tail i 0) → s.heard ≡ Nothing
+  pub try_further : (s : Step) → s ≡ edge_of m (Open at last bits) (get_or tail i 0) → s.heard ≡ None
       → (p b : ℕ) → ((a l c : ℕ) → s.reader ≡ Open a l c → p ≡ a) → ((a l c : ℕ) → s.reader ≡ Open a l c → b ≡ c)
       → Trying m tail place (Open p (get_or tail i 0) b) (i + 1)
   unfolding edge_of

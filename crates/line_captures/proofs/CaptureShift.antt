@@ -1,4 +1,5 @@
 -- The clock's shift, of captures: one whose readings are all later by δ modulo 2^32 is answered alike.
+use Rattle.std.specs.Prelude.{Err}
 use mathlib.Core.Path.{◌≡◌, refl, ap, ap₂, ◌∙◌}
 use mathlib.Core.Bool.{Bool, cond}
 use mathlib.Core.List.{List, [], ◌∷◌, map}
@@ -7,12 +8,10 @@ use Rattle.line_mode.specs.declared.modes.LineMode.{LineMode}
 use Rattle.line_reader.specs.declared.reader.Step.{Step}
 use Rattle.line_reader.specs.declared.reader.Reader.{Reader}
 use Rattle.line_reader.specs.declared.reader.Reader.TheVariants.{Fresh, Open, Dropping}
-use Rattle.line_reader.specs.declared.endings.Ending.TheVariants.{Cut}
+use Rattle.line_reader.specs.declared.endings.Broken.TheVariants.{Cut}
 use Rattle.line_reader.specs.Reading.{edge_of}
 use Rattle.line_reader.proofs.ClockShift.{later, edge_later}
-use Rattle.line_captures.specs.declared.captures.ReadOutcome.{ReadOutcome}
-use Rattle.line_captures.specs.declared.captures.ReadOutcome.TheVariants.{Attempt}
-use Rattle.line_captures.specs.Captures.{is_open, opens_at, ends_at, attempt_of}
+use Rattle.line_captures.specs.Captures.{is_open, opens_at, ends_at, attempt_of, ReadOutcome, attempt}
 
 -- A capture whose readings are all later by δ.
 abbrev pub all_later : ℕ → List ℕ → List ℕ
@@ -35,7 +34,7 @@ opens_later m δ r (x ∷ rest) at =
 pub attempt_later : (m : LineMode) (δ : ℕ) (r : Reader) (capture : List ℕ) (at : ℕ)
     → attempt_of m (later δ r) (all_later δ capture) at ≡ attempt_of m r capture at
 unfolding attempt_of
-attempt_later m δ r [] at = ap (Attempt Cut) (opens_later m δ r [] at)
+attempt_later m δ r [] at = ap (attempt (Err Cut)) (opens_later m δ r [] at)
 attempt_later m δ r (x ∷ rest) at =
     ap₂ (λ (b : Step) (n : ℕ). ends_at b.heard (attempt_of m b.reader (all_later δ rest) (at + 1)) n) (edge_later m δ r x) (opens_later m δ r (x ∷ rest) at)
     ∙ ap (λ (o : ReadOutcome). ends_at (edge_of m r x).heard o (opens_at m r (x ∷ rest) at)) (attempt_later m δ (edge_of m r x).reader rest (at + 1))

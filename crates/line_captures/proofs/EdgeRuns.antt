@@ -1,4 +1,6 @@
 -- Runs of edges: what is heard along them and the reader afterwards; and that edges carry a word just where their gaps are near those of its page.
+use Rattle.line_reader.specs.Endings.{Heard}
+use Rattle.std.specs.Prelude.{None}
 use mathlib.Core.Path.{◌≡◌, refl, ap, ◌∙◌}
 use mathlib.Core.Bool.{true}
 use mathlib.Core.List.{List, [], ◌∷◌, ◌++◌, Forall₂}
@@ -6,8 +8,6 @@ use Prim.Native.Nat.{ℕ, suc, ◌-◌, ◌^◌, ◌<◌}
 use native.Mathlib.Omega.{arith}
 use lib.ListN.{length, replicate}
 use Rattle.line_mode.specs.declared.modes.LineMode.{LineMode}
-use Rattle.line_reader.specs.declared.endings.Heard.{Heard}
-use Rattle.line_reader.specs.declared.endings.Heard.TheVariants.{Nothing}
 use Rattle.line_reader.specs.declared.reader.Reader.{Reader}
 use Rattle.line_reader.specs.Reading.{heard_along, reader_after}
 use Rattle.line_mode.specs.Gaps.{within}
@@ -22,17 +22,17 @@ last_of x (y ∷ rest) = last_of y rest
 
 -- Nothing n times, and then this.
 abbrev pub after_silence : ℕ → Heard → List Heard
-after_silence n heard = replicate n Nothing ++ (heard ∷ [])
+after_silence n heard = replicate n None ++ (heard ∷ [])
 
 -- Where this is what edges bring, it comes at the last of them.
 pub at_last : (m : LineMode) (r : Reader) (edges : List ℕ) (heard : Heard) → heard_along m r edges ≡ after_silence (length edges - 1) heard
-    → heard_along m r edges ≡ only_last Nothing edges heard
+    → heard_along m r edges ≡ only_last None edges heard
 at_last m r [] heard h = absurd (let z : ◌≡◌ {A = ℕ} 0 1 = cc h in omega arith)
 at_last m r (x ∷ edges) heard h = h ∙ ap (λ (n : ℕ). after_silence n heard) (let e : suc (length edges) - 1 ≡ length edges = omega arith in e) ∙ same x edges
   where
-    same : (x : ℕ) (edges : List ℕ) → after_silence (length edges) heard ≡ only_last Nothing (x ∷ edges) heard
+    same : (x : ℕ) (edges : List ℕ) → after_silence (length edges) heard ≡ only_last None (x ∷ edges) heard
     same x [] = refl
-    same x (y ∷ edges) = ap (λ (l : List Heard). Nothing ∷ l) (same y edges)
+    same x (y ∷ edges) = ap (λ (l : List Heard). None ∷ l) (same y edges)
 
 -- Nothing is heard at any edge but the last, there this; and the reader afterwards.
 pub record HeardLast (m : LineMode) (r : Reader) (edges : List ℕ) (heard : Heard) (after : Reader) : Type 0 where

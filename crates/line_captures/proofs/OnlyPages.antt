@@ -1,6 +1,8 @@
 -- Nothing else is read as a page: if an attempt says nothing at each edge until one where it says a page, then its gaps lie in the windows of
 -- that page's gaps, with one edge for each transition. Every edge of such an attempt was a count that the pattern asked for; so the counts
 -- led from 1 to 157, and by GapMachine they are the gaps of 64 bits; and as these agree, by ReadBits they are those sent for the word.
+use Rattle.line_reader.specs.Endings.{Ending, Heard}
+use Rattle.std.specs.Prelude.{Some, None, Ok, Err}
 use mathlib.Core.Path.{◌≡◌, refl, sym, ap, ap₂, ◌∙◌}
 use mathlib.Core.Bool.{Bool, true, false}
 use mathlib.Core.List.{List, [], ◌∷◌, map}
@@ -15,10 +17,7 @@ use Rattle.page_check_bits.proofs.WordBits.{sum_of}
 use Rattle.line_mode.specs.declared.modes.LineMode.{LineMode}
 use Rattle.line_mode.specs.declared.modes.Judgement.{Judgement}
 use Rattle.line_mode.specs.declared.modes.Judgement.TheVariants.{Positions, Quiet, Unfit}
-use Rattle.line_reader.specs.declared.endings.Ending.{Ending}
-use Rattle.line_reader.specs.declared.endings.Ending.TheVariants.{Good, Gap, Cut, Check}
-use Rattle.line_reader.specs.declared.endings.Heard.{Heard}
-use Rattle.line_reader.specs.declared.endings.Heard.TheVariants.{Nothing, Ended}
+use Rattle.line_reader.specs.declared.endings.Broken.TheVariants.{Gap, Cut, Check}
 use Rattle.line_reader.specs.declared.reader.Step.{Step}
 use Rattle.line_reader.specs.declared.reader.Reader.{Reader}
 use Rattle.line_reader.specs.declared.reader.Reader.TheVariants.{Open, Dropping}
@@ -38,29 +37,29 @@ use Rattle.line_captures.proofs.ReadBits.{pushed_all, agreeing}
 -- passed, or ends a page.
 module _ (mode : LineMode) (p bits reading : ℕ) where
   pub data Edge (j : Judgement) : Type 0 where
-    cut : j ≡ Quiet → goes_on mode p bits reading j ≡ step (Ended Cut) (Open 1 reading 0) → Edge j
-    wrong : (ending : Ending) → ((w : ℕ) → ending ≡ Good w → ⊥) → goes_on mode p bits reading j ≡ step (Ended ending) (Dropping reading) → Edge j
+    cut : j ≡ Quiet → goes_on mode p bits reading j ≡ step (Some (Err Cut)) (Open 1 reading 0) → Edge j
+    wrong : (ending : Ending) → ((w : ℕ) → ending ≡ Ok w → ⊥) → goes_on mode p bits reading j ≡ step (Some ending) (Dropping reading) → Edge j
     passing : (k : ℕ) → j ≡ Positions k → asks mode p k ≡ true
-        → goes_on mode p bits reading j ≡ step Nothing (Open (p + k) reading (with_bit p k bits)) → Edge j
+        → goes_on mode p bits reading j ≡ step None (Open (p + k) reading (with_bit p k bits)) → Edge j
     ending : (k : ℕ) → j ≡ Positions k → asks mode p k ≡ true → p + k ≡ 157 → agrees (with_bit p k bits) ≡ true
-        → goes_on mode p bits reading j ≡ step (Ended (Good (with_bit p k bits % 2 ^ 48))) (Dropping reading) → Edge j
+        → goes_on mode p bits reading j ≡ step (Some (Ok (with_bit p k bits % 2 ^ 48))) (Dropping reading) → Edge j
 
-  gap_no_page : (w : ℕ) → Gap ≡ Good w → ⊥
+  gap_no_page : (w : ℕ) → (Err Gap) ≡ Ok w → ⊥
   gap_no_page w h = let z : ◌≡◌ {A = ℕ} 0 1 = cc h in omega arith
 
-  check_no_page : (w : ℕ) → Check ≡ Good w → ⊥
+  check_no_page : (w : ℕ) → (Err Check) ≡ Ok w → ⊥
   check_no_page w h = let z : ◌≡◌ {A = ℕ} 0 1 = cc h in omega arith
 
   pub edge_cases : (j : Judgement) → Edge j
   unfolding goes_on arrives
   edge_cases Quiet = cut refl refl
-  edge_cases Unfit = wrong Gap gap_no_page refl
+  edge_cases Unfit = wrong (Err Gap) gap_no_page refl
   edge_cases (Positions k) = by (asks mode p k) refl (eqb (p + k) 157) refl (agrees (with_bit p k bits)) refl
     where
       by : (a : Bool) → asks mode p k ≡ a → (e : Bool) → eqb (p + k) 157 ≡ e → (g : Bool) → agrees (with_bit p k bits) ≡ g → Edge (Positions k)
-      by false a e f g h = wrong Gap gap_no_page (rw a)
+      by false a e f g h = wrong (Err Gap) gap_no_page (rw a)
       by true a false f g h = passing k refl a (rw (a, f))
-      by true a true f false h = wrong Check check_no_page (rw (a, f, h))
+      by true a true f false h = wrong (Err Check) check_no_page (rw (a, f, h))
       by true a true f true h = ending k refl a (eqb-true (p + k) 157 f) h (rw (a, f, h))
 
 -- Where it is known what is brought, just that is heard.
@@ -77,7 +76,7 @@ record Walk (m : LineMode) (p x bits w : ℕ) (edges : List ℕ) : Type 0 where
 
 module _ (m : LineMode) (p x bits w y : ℕ) where
   -- The edge that says the page,
-  last_edge : Edge m p bits y (judgement_of m (time_between y x)) → (goes_on m p bits y (judgement_of m (time_between y x))).heard ≡ Ended (Good w)
+  last_edge : Edge m p bits y (judgement_of m (time_between y x)) → (goes_on m p bits y (judgement_of m (time_between y x))).heard ≡ Some (Ok w)
       → Walk m p x bits w (y ∷ [])
   last_edge (cut q e) h = absurd (let f = brought e h in let z : ◌≡◌ {A = ℕ} 0 1 = cc in omega arith)
   last_edge (wrong other none e) h = absurd (none w (let f = brought e h in cc f))
@@ -96,7 +95,7 @@ module _ (m : LineMode) (p x bits w y : ℕ) where
   edge_before : (edges : List ℕ) → Edge m p bits y (judgement_of m (time_between y x))
       → ((k : ℕ) → (goes_on m p bits y (judgement_of m (time_between y x))).reader ≡ Open (p + k) y (with_bit p k bits)
       → Walk m (p + k) y (with_bit p k bits) w edges)
-      → (goes_on m p bits y (judgement_of m (time_between y x))).heard ≡ Nothing → Walk m p x bits w (y ∷ edges)
+      → (goes_on m p bits y (judgement_of m (time_between y x))).heard ≡ None → Walk m p x bits w (y ∷ edges)
   edge_before edges (cut q e) later h = absurd (let f = brought e h in let z : ◌≡◌ {A = ℕ} 0 1 = cc in omega arith)
   edge_before edges (wrong other none e) later h = absurd (let f = brought e h in let z : ◌≡◌ {A = ℕ} 0 1 = cc in omega arith)
   edge_before edges (ending k j a end g e) later h = absurd (let f = brought e h in let z : ◌≡◌ {A = ℕ} 0 1 = cc in omega arith)
@@ -112,7 +111,7 @@ module _ (m : LineMode) (p x bits w y : ℕ) where
       }
 
 -- Every edge of an attempt that says nothing until it says a page is a count that the pattern asks for.
-walked : (m : LineMode) (n p x bits w : ℕ) (edges : List ℕ) → heard_along m (Open p x bits) edges ≡ after_silence n (Ended (Good w)) → Walk m p x bits w edges
+walked : (m : LineMode) (n p x bits w : ℕ) (edges : List ℕ) → heard_along m (Open p x bits) edges ≡ after_silence n (Some (Ok w)) → Walk m p x bits w edges
 unfolding edge_of
 walked m zero p x bits w [] h = absurd (let z : ◌≡◌ {A = ℕ} 0 1 = cc h in omega arith)
 walked m (suc n) p x bits w [] h = absurd (let z : ◌≡◌ {A = ℕ} 0 1 = cc h in omega arith)
@@ -123,7 +122,7 @@ walked m (suc n) p x bits w (y ∷ edges) h =
     (λ k e. walked m n (p + k) y (with_bit p k bits) w edges (ap (λ (r : Reader). heard_along m r edges) (sym e) ∙ cc h)) (cc h)
 
 -- So an attempt that is read as a page was sent.
-pub only_carried : (m : LineMode) (n w x : ℕ) (edges : List ℕ) → heard_along m (Open 1 x 0) edges ≡ after_silence n (Ended (Good w)) → Carried m w (x ∷ edges)
+pub only_carried : (m : LineMode) (n w x : ℕ) (edges : List ℕ) → heard_along m (Open 1 x 0) edges ≡ after_silence n (Some (Ok w)) → Carried m w (x ∷ edges)
 only_carried m n w x edges h =
     let walk = walked m n 1 x 0 w edges h in
     let page = only_pages m walk.counts walk.through in

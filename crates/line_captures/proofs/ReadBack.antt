@@ -1,6 +1,8 @@
 -- A page sent is read back as itself: edges whose gaps lie in the windows of the page's gaps are answered nothing until the last, and there the
 -- page's word. The windows turn gaps into counts; the counts go through the machine of GapMachine; its register is the word and its check
 -- bits, by ReadBits.
+use Rattle.line_reader.specs.Endings.{Heard}
+use Rattle.std.specs.Prelude.{Some, None, Ok, Err}
 use mathlib.Core.Path.{◌≡◌, refl, sym, ap, ◌∙◌, subst}
 use mathlib.Core.Bool.{true, cond}
 use mathlib.Core.List.Forall₂
@@ -12,9 +14,7 @@ use borrow.Author.Tests.{eqb-true, ne_eqb, eq-eqb}
 use Rattle.page_check_bits.specs.CheckBits.{agrees}
 use Rattle.line_mode.specs.declared.modes.LineMode.{LineMode}
 use Rattle.line_mode.specs.declared.modes.Judgement.TheVariants.{Positions}
-use Rattle.line_reader.specs.declared.endings.Ending.TheVariants.{Good, Cut, Check}
-use Rattle.line_reader.specs.declared.endings.Heard.{Heard}
-use Rattle.line_reader.specs.declared.endings.Heard.TheVariants.{Nothing, Ended}
+use Rattle.line_reader.specs.declared.endings.Broken.TheVariants.{Cut, Check}
 use Rattle.line_reader.specs.declared.reader.Step.{Step}
 use Rattle.line_reader.specs.declared.reader.Reader.{Reader}
 use Rattle.line_reader.specs.declared.reader.Reader.TheVariants.{Fresh, Open, Dropping}
@@ -33,30 +33,30 @@ use Rattle.line_captures.proofs.SentGaps.{transition_gaps}
 use Rattle.line_captures.proofs.ReadBits.{pushed_all, sent_agrees, sent_word}
 
 -- A page's first edge opens an attempt: after a fresh reader,
-pub fresh_opens : (m : LineMode) (reading : ℕ) → edge_of m Fresh reading ≡ step Nothing (Open 1 reading 0)
+pub fresh_opens : (m : LineMode) (reading : ℕ) → edge_of m Fresh reading ≡ step None (Open 1 reading 0)
 unfolding edge_of
 fresh_opens m reading = refl
 
 module _ (m : LineMode) (apart : Apart m) (last reading : ℕ) (quiet : m.quiet ≤ time_between reading last) where
   -- and after quiet, where edges were dropped,
-  pub dropping_opens : edge_of m (Dropping last) reading ≡ step Nothing (Open 1 reading 0)
+  pub dropping_opens : edge_of m (Dropping last) reading ≡ step None (Open 1 reading 0)
   unfolding edge_of drops_on
   dropping_opens = rw (counts_quiet m apart (time_between reading last) quiet)
 
   -- or where an attempt was open, which is Cut.
-  pub open_opens : (at bits : ℕ) → edge_of m (Open at last bits) reading ≡ step (Ended Cut) (Open 1 reading 0)
+  pub open_opens : (at bits : ℕ) → edge_of m (Open at last bits) reading ≡ step (Some (Err Cut)) (Open 1 reading 0)
   unfolding edge_of goes_on
   open_opens at bits = rw (counts_quiet m apart (time_between reading last) quiet)
 
 -- What is heard of the bits of a page at its last edge.
 abbrev verdict : ℕ → Heard
-verdict bits = Ended (cond (agrees bits) (Good (bits % 2 ^ 48)) Check)
+verdict bits = Some (cond (agrees bits) (Ok (bits % 2 ^ 48)) (Err Check))
 
 -- An edge whose gap is a count that the pattern asks for: before 157 it is passed, at 157 it ends the attempt.
 module _ (m : LineMode) (p last bits reading k : ℕ) (judged : judgement_of m (time_between reading last) ≡ Positions k)
     (asked : asks m p k ≡ true)
   where
-    passes_edge : (p + k ≡ 157 → ⊥) → edge_of m (Open p last bits) reading ≡ step Nothing (Open (p + k) reading (with_bit p k bits))
+    passes_edge : (p + k ≡ 157 → ⊥) → edge_of m (Open p last bits) reading ≡ step None (Open (p + k) reading (with_bit p k bits))
     unfolding edge_of goes_on arrives
     passes_edge before = rw (judged, asked, ne_eqb (p + k) 157 before)
 
@@ -69,12 +69,12 @@ one_edge : (m : LineMode) (r after : Reader) (x : ℕ) (heard : Heard) → edge_
 one_edge m r after x heard e = record { told = ap (λ (b : Step). b.heard ∷ []) e; left = ap (λ (b : Step). b.reader) e }
 
 -- and one more in front of others.
-edge_more : (m : LineMode) (r next after : Reader) (x y : ℕ) (rest : List ℕ) (heard : Heard) → edge_of m r x ≡ step Nothing next
+edge_more : (m : LineMode) (r next after : Reader) (x y : ℕ) (rest : List ℕ) (heard : Heard) → edge_of m r x ≡ step None next
     → HeardLast m next (y ∷ rest) heard after → HeardLast m r (x ∷ y ∷ rest) heard after
 edge_more m r next after x y rest heard e h =
     record {
       told =
-          ap (λ (b : Step). b.heard ∷ heard_along m b.reader (y ∷ rest)) e ∙ ap (λ (l : List Heard). Nothing ∷ l) h.told
+          ap (λ (b : Step). b.heard ∷ heard_along m b.reader (y ∷ rest)) e ∙ ap (λ (l : List Heard). None ∷ l) h.told
           ∙ ap (λ (n : ℕ). after_silence n heard) (let f : suc (suc (length rest) - 1) ≡ suc (suc (length rest)) - 1 = omega arith in f);
       left = ap (λ (b : Step). reader_after m b.reader (y ∷ rest)) e ∙ h.left;
     }
@@ -129,14 +129,14 @@ unfolding edge_count
 as_many m w edges near = same_length m (transitions m w) edges (more_than_one m w) near
 
 -- The bits of a page are found good, and are its word.
-page_verdict : (mode : LineMode) (w : ℕ) → w < 2 ^ 48 → verdict (bits_after 1 0 (gaps_of mode (sent_bits w))) ≡ Ended (Good w)
+page_verdict : (mode : LineMode) (w : ℕ) → w < 2 ^ 48 → verdict (bits_after 1 0 (gaps_of mode (sent_bits w))) ≡ Some (Ok w)
 page_verdict mode w h =
     ap verdict (page_bits mode (sent_bits w) (sent_length w) ∙ pushed_all (sent_bits w) (sent_length w))
     ∙ rw (sent_agrees w, sent_word w h)
 
 module _ (m : LineMode) (apart : Apart m) (w : ℕ) (word : w < 2 ^ 48) where
   -- An attempt that is open at its first edge reads the rest of the page,
-  pub opened_reads : (x : ℕ) (edges : List ℕ) → Carries m w (x ∷ edges) → HeardLast m (Open 1 x 0) edges (Ended (Good w)) (Dropping (last_of x edges))
+  pub opened_reads : (x : ℕ) (edges : List ℕ) → Carries m w (x ∷ edges) → HeardLast m (Open 1 x 0) edges (Some (Ok w)) (Dropping (last_of x edges))
   opened_reads x edges near =
       subst (λ (s : Heard). HeardLast m (Open 1 x 0) edges s (Dropping (last_of x edges))) (page_verdict m w word)
       (counts_read m 1 x 0 (gaps_of m (sent_bits w)) edges
@@ -148,8 +148,8 @@ module _ (m : LineMode) (apart : Apart m) (w : ℕ) (word : w < 2 ^ 48) where
       through = page_passes m (sent_bits w) (sent_length w)
 
   -- and a fresh reader the whole page.
-  pub fresh_reads : (edges : List ℕ) → Carries m w edges → HeardLast m Fresh edges (Ended (Good w)) (Dropping (last_of 0 edges))
+  pub fresh_reads : (edges : List ℕ) → Carries m w edges → HeardLast m Fresh edges (Some (Ok w)) (Dropping (last_of 0 edges))
   fresh_reads [] near = absurd (more_than_one m w near)
   fresh_reads (x ∷ []) near = absurd (more_than_one m w near)
   fresh_reads (x ∷ y ∷ edges) near =
-      edge_more m Fresh (Open 1 x 0) (Dropping (last_of y edges)) x y edges (Ended (Good w)) (fresh_opens m x) (opened_reads x (y ∷ edges) near)
+      edge_more m Fresh (Open 1 x 0) (Dropping (last_of y edges)) x y edges (Some (Ok w)) (fresh_opens m x) (opened_reads x (y ∷ edges) near)

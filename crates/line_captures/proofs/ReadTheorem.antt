@@ -1,13 +1,13 @@
 -- Reading back, beyond what ReadingBack says: the reader after a page, where the next attempt opens, how many edges a page has, and that a shift of the
 -- clock is not seen; in one record, for the numbers of any mode whose windows lie apart, and so for 01's two modes.
+use Rattle.std.specs.Prelude.{Some, Ok, Err}
 use mathlib.Core.Path.{◌≡◌, sym, ap, ◌∙◌}
 use mathlib.Core.List.{List, [], ◌∷◌, ◌++◌, append-nil}
 use Prim.Native.Nat.{ℕ, ◌+◌, ◌*◌, ◌%◌, ◌^◌, ◌<◌, ◌≤◌}
 use lib.ListN.{length, drop}
 use Rattle.answers.specs.Answers.{put_at}
 use Rattle.line_mode.specs.declared.modes.LineMode.{LineMode}
-use Rattle.line_reader.specs.declared.endings.Ending.TheVariants.{Good, Cut}
-use Rattle.line_reader.specs.declared.endings.Heard.TheVariants.{Ended}
+use Rattle.line_reader.specs.declared.endings.Broken.TheVariants.{Cut}
 use Rattle.line_reader.specs.declared.reader.Step.{Step}
 use Rattle.line_reader.specs.declared.reader.Reader.{Reader}
 use Rattle.line_reader.specs.declared.reader.Reader.TheVariants.{Fresh, Open, Dropping}
@@ -17,8 +17,7 @@ use Rattle.line_writer.specs.Transitions.{reading_at, readings, edge_count}
 use Rattle.line_reader.specs.Reading.{step, edge_of, reader_after}
 use Rattle.line_reader.proofs.ClockShift.{later, edge_later}
 use Rattle.line_mode.proofs.Windows.{Apart, hsm_apart, lsm_apart}
-use Rattle.line_captures.specs.declared.captures.ReadOutcome.TheVariants.{Attempt}
-use Rattle.line_captures.specs.Captures.{opens_at, attempt_of, read_in}
+use Rattle.line_captures.specs.Captures.{opens_at, attempt_of, read_in, attempt}
 use Rattle.line_captures.specs.ReadingBack.{Carries}
 use Rattle.line_captures.proofs.EdgeRuns.{last_of}
 use Rattle.line_captures.proofs.ReadBack.{as_many, opened_reads, fresh_reads, dropping_opens, open_opens}
@@ -33,22 +32,22 @@ pub record ReadsBack (m : LineMode) : Type 0 where
   pub quiet_left : (w last x : ℕ) (edges : List ℕ) → w < 2 ^ 48 → m.quiet ≤ time_between x last → Carries m w (x ∷ edges)
       → reader_after m (Dropping last) (x ∷ edges) ≡ Dropping (last_of x edges)
   -- An edge that follows quiet ends an open attempt, and opens the next.
-  pub cut : (at last bits x : ℕ) → m.quiet ≤ time_between x last → edge_of m (Open at last bits) x ≡ step (Ended Cut) (Open 1 x 0)
+  pub cut : (at last bits x : ℕ) → m.quiet ≤ time_between x last → edge_of m (Open at last bits) x ≡ step (Some (Err Cut)) (Open 1 x 0)
   -- Where a capture begins with a page, the next attempt is the next that opens behind it;
   pub captured : (w at : ℕ) (edges rest : List ℕ) → w < 2 ^ 48 → Carries m w edges
-      → attempt_of m Fresh (edges ++ rest) at ≡ Attempt (Good w) (opens_at m (Dropping (last_of 0 edges)) rest (at + length edges))
+      → attempt_of m Fresh (edges ++ rest) at ≡ attempt (Ok w) (opens_at m (Dropping (last_of 0 edges)) rest (at + length edges))
   -- and if nothing follows, there is no next attempt.
-  pub alone : (w at : ℕ) (edges : List ℕ) → w < 2 ^ 48 → Carries m w edges → attempt_of m Fresh edges at ≡ Attempt (Good w) (at + length edges)
+  pub alone : (w at : ℕ) (edges : List ℕ) → w < 2 ^ 48 → Carries m w edges → attempt_of m Fresh edges at ≡ attempt (Ok w) (at + length edges)
   -- Edges that carry a word are as many as its page's transitions.
   pub as_many : (w : ℕ) (edges : List ℕ) → Carries m w edges → length edges ≡ edge_count m w
   -- Behind a page that is written, from any first reading, the next attempt is the next that opens, if four spacings are less than the clock's round;
   pub written : (w first at : ℕ) (rest : List ℕ) → w < 2 ^ 48 → 4 * m.spacing < 2 ^ 32
       → attempt_of m Fresh (readings m w first ++ rest) at
-      ≡ Attempt (Good w) (opens_at m (Dropping (reading_at m.spacing first 157)) rest (at + edge_count m w))
+      ≡ attempt (Ok w) (opens_at m (Dropping (reading_at m.spacing first 157)) rest (at + edge_count m w))
   -- and so it is by the read call at the place where the write call put it, if there was room.
   pub placed_back : (list : List ℕ) (place w first : ℕ) → w < 2 ^ 48 → 4 * m.spacing < 2 ^ 32 → place + edge_count m w ≤ length list
       → read_in m (put_at place (readings m w first) list) place
-      ≡ Attempt (Good w) (opens_at m (Dropping (reading_at m.spacing first 157)) (drop (place + edge_count m w) list) (place + edge_count m w))
+      ≡ attempt (Ok w) (opens_at m (Dropping (reading_at m.spacing first 157)) (drop (place + edge_count m w) list) (place + edge_count m w))
   -- A shift of all readings modulo 2^32 is not seen: the same is heard, and the reader is shifted.
   pub shifted : (δ : ℕ) (r : Reader) (x : ℕ) → edge_of m (later δ r) ((x + δ) % 2 ^ 32) ≡ step (edge_of m r x).heard (later δ (edge_of m r x).reader)
   -- So a capture is answered alike, at whatever reading the clock stood.
@@ -56,7 +55,7 @@ pub record ReadsBack (m : LineMode) : Type 0 where
 
 -- A capture that is a page and no more.
 only_page : (m : LineMode) → Apart m → (w at : ℕ) (edges : List ℕ) → w < 2 ^ 48 → Carries m w edges
-    → attempt_of m Fresh edges at ≡ Attempt (Good w) (at + length edges)
+    → attempt_of m Fresh edges at ≡ attempt (Ok w) (at + length edges)
 unfolding opens_at
 only_page m apart w at edges word carried =
     ap (λ (l : List ℕ). attempt_of m Fresh l at) (sym (append-nil edges))

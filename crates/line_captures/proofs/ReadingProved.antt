@@ -1,4 +1,7 @@
 -- Pages are read back, and nothing else is read as a page: ReadingBack holds over any numbers whose windows lie apart, and so in 01's two modes.
+use Rattle.answers.specs.declared.Refusal.TheVariants as refusal
+use Rattle.line_reader.specs.Endings.{Heard}
+use Rattle.std.specs.Prelude.{Option, Some, None, Ok, Err}
 use mathlib.Core.Path.{◌≡◌, refl, sym, ap, ◌∙◌, subst}
 use mathlib.Core.Bool.{Bool, true, false, cond}
 use mathlib.Core.List.{List, [], ◌∷◌, ◌++◌}
@@ -10,11 +13,7 @@ use borrow.Author.Tests.{le-leb, lt-leb, le-ltb, ne_eqb}
 use Rattle.answers.specs.Answers.{number, page_read, kept}
 use Rattle.answers.specs.declared.Refusal.TheVariants.{Mode}
 use Rattle.line_mode.specs.declared.modes.LineMode.{LineMode}
-use Rattle.line_mode.specs.declared.modes.Found.{Found}
-use Rattle.line_mode.specs.declared.modes.Found.TheVariants.{Known}
-use Rattle.line_reader.specs.declared.endings.Ending.TheVariants.{Good, Cut}
-use Rattle.line_reader.specs.declared.endings.Heard.{Heard}
-use Rattle.line_reader.specs.declared.endings.Heard.TheVariants.{Nothing, Ended}
+use Rattle.line_reader.specs.declared.endings.Broken.TheVariants.{Cut}
 use Rattle.line_reader.specs.declared.reader.Step.{Step}
 use Rattle.line_reader.specs.declared.reader.Reader.{Reader}
 use Rattle.line_reader.specs.declared.reader.Reader.TheVariants.{Fresh, Open}
@@ -25,8 +24,7 @@ use Rattle.line_writer.specs.Transitions.{edge_count}
 use Rattle.line_writer.specs.Writing.{write_in, write_of}
 use Rattle.line_writer.proofs.WrittenList.{has_edges}
 use Rattle.line_reader.specs.Reading.{step, edge_of, heard_along, reader_after}
-use Rattle.line_captures.specs.declared.captures.ReadOutcome.TheVariants.{PastTheEnd, AtTheEnd, Attempt}
-use Rattle.line_captures.specs.Captures.{said_of_read, is_open, attempt_of, read_in}
+use Rattle.line_captures.specs.Captures.{said_of_read, is_open, attempt_of, read_in, attempt}
 use Rattle.line_captures.specs.ReadingBack.{Carries, only_last, BeginsWith, ReadingBack}
 use Rattle.line_captures.proofs.SaysPage.{heard_page, read_page}
 use Rattle.line_captures.proofs.EdgeRuns.{last_of, after_silence, at_last}
@@ -66,33 +64,33 @@ module _ (m : LineMode) (apart : Apart m) (capture : List ℕ) (place w : ℕ) w
   unfolding read_in
   read_only h = let a = read_page (read_in m capture place) w h in by (ltb (length capture) place) (eqb place (length capture)) a.next a.told
     where
-      by : (t u : Bool) (next : ℕ) → cond t PastTheEnd (cond u AtTheEnd (attempt_of m Fresh (drop place capture) place)) ≡ Attempt (Good w) next
+      by : (t u : Bool) (next : ℕ) → cond t (Err refusal.Room) (cond u (Ok None) (attempt_of m Fresh (drop place capture) place)) ≡ attempt (Ok w) next
           → BeginsWith m w (drop place capture)
       by true u next h = absurd (let z : ◌≡◌ {A = ℕ} 0 1 = cc h in omega arith)
       by false true next h = absurd (let z : ◌≡◌ {A = ℕ} 0 1 = cc h in omega arith)
       by false false next h = answered_carried m w (drop place capture) place next h
 
 -- The write call by a mode's number, where there is room.
-write_known : (mode : ℕ) (m : LineMode) (list : List ℕ) (place w first : ℕ) → mode_of mode ≡ Known m → w < 2 ^ 48 → place + edge_count m w ≤ length list
+write_known : (mode : ℕ) (m : LineMode) (list : List ℕ) (place w first : ℕ) → mode_of mode ≡ Some m → w < 2 ^ 48 → place + edge_count m w ≤ length list
     → (write_of mode list place w first).says ≡ number (edge_count m w)
 unfolding write_of write_in
 write_known mode m list place w first known word room =
-    ap (λ (f : Found). (by_mode f (λ n. write_in n list place w first) (kept Mode list)).says) known
+    ap (λ (f : Option LineMode). (by_mode f (λ n. write_in n list place w first) (kept Mode list)).says) known
     ∙ rw (lt-leb (2 ^ 48) w word, le-ltb (length list) (place + edge_count m w) room)
 
 -- Over any numbers whose windows lie apart, four spacings being less than the clock's round, and any number that names them.
-pub reading_back : (mode : ℕ) (m : LineMode) → mode_of mode ≡ Known m → Apart m → 4 * m.spacing < 2 ^ 32 → ReadingBack mode m
+pub reading_back : (mode : ℕ) (m : LineMode) → mode_of mode ≡ Some m → Apart m → 4 * m.spacing < 2 ^ 32 → ReadingBack mode m
 reading_back mode m known apart clock =
     record {
       nominal = λ w first. written_carries m first clock w;
-      fresh = λ w edges word carried. at_last m Fresh edges (Ended (Good w)) (fresh_reads m apart w word edges carried).told;
+      fresh = λ w edges word carried. at_last m Fresh edges (Some (Ok w)) (fresh_reads m apart w word edges carried).told;
       after_quiet = λ past last x w edges q word carried.
           after (reader_after m Fresh (past ++ (last ∷ []))) x w edges
           (starting m apart (reader_after m Fresh (past ++ (last ∷ []))) x
           (quiet_starts m (reader_after m Fresh (past ++ (last ∷ []))) last x
           (subst (LastAt last) (sym (after_append m Fresh past (last ∷ []))) (last_at m (reader_after m Fresh past) last)) q)) word carried;
       one_word = λ v w edges below word first second.
-          let same = same_last (length edges - 1) (Ended (Good v)) (Ended (Good w))
+          let same = same_last (length edges - 1) (Some (Ok v)) (Some (Ok w))
           (sym (fresh_reads m apart v below edges first).told ∙ (fresh_reads m apart w word edges second).told) in cc same;
       nothing_else = λ past x w h. page_heard m past x w (heard_page (edge_of m (reader_after m Fresh past) x).heard w h);
       read = λ capture place w b. ap said_of_read (read_known mode m capture place known) ∙ read_back m apart capture place w b;
@@ -104,11 +102,11 @@ reading_back mode m known apart clock =
       each_once = λ capture place more enough. attempts_told mode m known capture more place enough;
     }
   where
-    after : (r : Reader) (x w : ℕ) (edges : List ℕ) → edge_of m r x ≡ step (cond (is_open r) (Ended Cut) Nothing) (Open 1 x 0) → w < 2 ^ 48 → Carries m w (x ∷ edges)
-        → heard_along m r (x ∷ edges) ≡ cond (is_open r) (Ended Cut) Nothing ∷ only_last Nothing edges (Ended (Good w))
+    after : (r : Reader) (x w : ℕ) (edges : List ℕ) → edge_of m r x ≡ step (cond (is_open r) (Some (Err Cut)) None) (Open 1 x 0) → w < 2 ^ 48 → Carries m w (x ∷ edges)
+        → heard_along m r (x ∷ edges) ≡ cond (is_open r) (Some (Err Cut)) None ∷ only_last None edges (Some (Ok w))
     after r x w edges e word carried =
         ap (λ (b : Step). b.heard ∷ heard_along m b.reader edges) e
-        ∙ ap (λ (l : List Heard). cond (is_open r) (Ended Cut) Nothing ∷ l) (at_last m (Open 1 x 0) edges (Ended (Good w)) (opened_reads m apart w word x edges carried).told)
+        ∙ ap (λ (l : List Heard). cond (is_open r) (Some (Err Cut)) None ∷ l) (at_last m (Open 1 x 0) edges (Some (Ok w)) (opened_reads m apart w word x edges carried).told)
 
 pub high_speed_back : ReadingBack 0 hsm_mode
 unfolding mode_of

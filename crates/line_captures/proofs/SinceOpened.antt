@@ -1,5 +1,7 @@
 -- Whatever edges came before: where a reader that was fresh once hears a page, the edges since the one that opened the attempt carry it.
 -- Edge by edge, a reader either holds no attempt, or the edges since it opened one were all answered Nothing.
+use Rattle.line_reader.specs.Endings.{Heard}
+use Rattle.std.specs.Prelude.{Some, None, Ok}
 use mathlib.Core.Path.{◌≡◌, refl, sym, ap, ap₂, ◌∙◌, subst}
 use mathlib.Core.Bool.{Bool, true, false}
 use mathlib.Core.List.{List, [], ◌∷◌, ◌++◌, append_assoc, append-nil}
@@ -10,9 +12,6 @@ use lib.ListN.{length, replicate, length-append, replicate-append-replicate}
 use Rattle.line_mode.specs.declared.modes.LineMode.{LineMode}
 use Rattle.line_mode.specs.declared.modes.Judgement.{Judgement}
 use Rattle.line_mode.specs.declared.modes.Judgement.TheVariants.{Positions, Quiet, Unfit}
-use Rattle.line_reader.specs.declared.endings.Ending.TheVariants.{Good}
-use Rattle.line_reader.specs.declared.endings.Heard.{Heard}
-use Rattle.line_reader.specs.declared.endings.Heard.TheVariants.{Nothing, Ended}
 use Rattle.line_reader.specs.declared.reader.Step.{Step}
 use Rattle.line_reader.specs.declared.reader.Reader.{Reader}
 use Rattle.line_reader.specs.declared.reader.Reader.TheVariants.{Fresh, Open, Dropping}
@@ -45,7 +44,7 @@ starts_at m (Dropping last) x = leb m.quiet (time_between x last)
 data Turn (m : LineMode) (r : Reader) (x : ℕ) : Type 0 where
   opens : starts_at m r x ≡ true → (edge_of m r x).reader ≡ Open 1 x 0 → Turn m r x
   shuts : is_open (edge_of m r x).reader ≡ false → Turn m r x
-  goes : is_open r ≡ true → (edge_of m r x).heard ≡ Nothing → Turn m r x
+  goes : is_open r ≡ true → (edge_of m r x).heard ≡ None → Turn m r x
 
 -- Each edge does one of these.
 turn : (m : LineMode) (r : Reader) (x : ℕ) → Turn m r x
@@ -73,7 +72,7 @@ pub record Opened (m : LineMode) (past : List ℕ) : Type 0 where
   pub whole : past ≡ before ++ (first ∷ since)
   pub starts : starts_at m (reader_after m Fresh before) first ≡ true
   pub opened : reader_after m Fresh (before ++ (first ∷ [])) ≡ Open 1 first 0
-  pub silent : heard_along m (Open 1 first 0) since ≡ replicate (length since) Nothing
+  pub silent : heard_along m (Open 1 first 0) since ≡ replicate (length since) None
 
 -- What a reader holds after edges: no attempt, or one.
 data Holds (m : LineMode) (past : List ℕ) : Type 0 where
@@ -105,7 +104,7 @@ holds_more m past x (attempt p) (goes o e) =
       silent =
           heard_append m (Open 1 p.first 0) p.since (x ∷ [])
           ∙ ap₂ (λ (l : List Heard) (s : Heard). l ++ (s ∷ [])) p.silent (ap (λ (r : Reader). (edge_of m r x).heard) (sym (since_opened m past p)) ∙ e)
-          ∙ replicate-append-replicate (length p.since) 1 Nothing ∙ ap (λ (n : ℕ). replicate n Nothing) (sym (length-append p.since (x ∷ [])));
+          ∙ replicate-append-replicate (length p.since) 1 None ∙ ap (λ (n : ℕ). replicate n None) (sym (length-append p.since (x ∷ [])));
     })
 
 -- and after any.
@@ -155,7 +154,7 @@ pub record HeardSince (m : LineMode) (w : ℕ) (past : List ℕ) (x : ℕ) : Typ
   pub attempt : Opened m past
   pub carried : Carried m w (attempt.first ∷ (attempt.since ++ (x ∷ [])))
 
-pub heard_since : (m : LineMode) (past : List ℕ) (x w : ℕ) → (edge_of m (reader_after m Fresh past) x).heard ≡ Ended (Good w) → HeardSince m w past x
+pub heard_since : (m : LineMode) (past : List ℕ) (x w : ℕ) → (edge_of m (reader_after m Fresh past) x).heard ≡ Some (Ok w) → HeardSince m w past x
 heard_since m past x w h = by (holds_on m [] past (none refl))
   where
     by : Holds m past → HeardSince m w past x
@@ -169,7 +168,7 @@ heard_since m past x w h = by (holds_on m [] past (none refl))
               ∙ ap₂ (λ (l : List Heard) (s : Heard). l ++ (s ∷ [])) o.silent (ap (λ (r : Reader). (edge_of m r x).heard) (sym (since_opened m past o)) ∙ h));
         }
 
-pub page_heard : (m : LineMode) (past : List ℕ) (x w : ℕ) → (edge_of m (reader_after m Fresh past) x).heard ≡ Ended (Good w) → EndsWith m w (past ++ (x ∷ []))
+pub page_heard : (m : LineMode) (past : List ℕ) (x w : ℕ) → (edge_of m (reader_after m Fresh past) x).heard ≡ Some (Ok w) → EndsWith m w (past ++ (x ∷ []))
 page_heard m past x w h =
     let s = heard_since m past x w h in
     let o = s.attempt in

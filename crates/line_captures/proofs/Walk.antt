@@ -1,6 +1,9 @@
 -- Reading from next place to next place meets every attempt once, in order, and ends.
 -- What one reader tells along a whole capture, with a Cut for an attempt that is open at its end, is the first attempt's ending and then the
 -- same for what stands from the next place on: the edge that opens an attempt leaves any reader as a fresh one takes it.
+use Rattle.answers.specs.declared.Refusal.TheVariants as refusal
+use Rattle.line_reader.specs.Endings.{Ending}
+use Rattle.std.specs.Prelude.{Option, Some, None, Ok, Err}
 use mathlib.Core.Path.{◌≡◌, refl, sym, ap, ◌∙◌}
 use mathlib.Core.Bool.{Bool, true, false, cond}
 use mathlib.Core.List.{List, [], ◌∷◌, ◌++◌}
@@ -13,13 +16,9 @@ use lib.Seq.{drop-nil, drop-drop}
 use borrow.Author.Tests.{ltb-true, ltb-false, le-ltb, eqb-false, ne_eqb}
 use Rattle.page_check_bits.specs.CheckBits.{agrees}
 use Rattle.line_mode.specs.declared.modes.LineMode.{LineMode}
-use Rattle.line_mode.specs.declared.modes.Found.{Found}
-use Rattle.line_mode.specs.declared.modes.Found.TheVariants.{Known, Unknown}
 use Rattle.line_mode.specs.declared.modes.Judgement.{Judgement}
 use Rattle.line_mode.specs.declared.modes.Judgement.TheVariants.{Positions, Quiet, Unfit}
-use Rattle.line_reader.specs.declared.endings.Ending.{Ending}
-use Rattle.line_reader.specs.declared.endings.Ending.TheVariants.{Good, Gap, Cut, Check}
-use Rattle.line_reader.specs.declared.endings.Heard.TheVariants.{Nothing, Ended}
+use Rattle.line_reader.specs.declared.endings.Broken.TheVariants.{Gap, Cut, Check}
 use Rattle.line_reader.specs.declared.reader.Step.{Step}
 use Rattle.line_reader.specs.declared.reader.Reader.{Reader}
 use Rattle.line_reader.specs.declared.reader.Reader.TheVariants.{Fresh, Open, Dropping}
@@ -28,10 +27,9 @@ use Rattle.line_mode.specs.Gaps.{judgement_of}
 use Rattle.line_mode.specs.Modes.{mode_of, by_mode}
 use Rattle.line_reader.specs.Pattern.{asks}
 use Rattle.line_reader.specs.Reading.{step, with_bit, arrives, goes_on, drops_on, edge_of, heard_along, reader_after}
-use Rattle.line_captures.specs.declared.captures.ReadOutcome.{ReadOutcome}
-use Rattle.line_captures.specs.declared.captures.ReadOutcome.TheVariants.{UnknownMode, PastTheEnd, AtTheEnd, Attempt}
-use Rattle.line_captures.specs.Captures.{opens_at, attempt_of, read_in, read_of, onwards, attempts_from}
+use Rattle.line_captures.specs.Captures.{opens_at, attempt_of, read_in, read_of, onwards, attempts_from, ReadOutcome, attempt}
 use Rattle.line_captures.specs.ReadingBack.{endings, ends_open}
+use Rattle.line_captures.proofs.SaysPage.{same_next}
 
 -- How every attempt of a list of edges ends that a reader takes, as it tells them edge by edge.
 abbrev pub told_by : LineMode → Reader → List ℕ → List Ending
@@ -39,27 +37,27 @@ told_by m r edges = endings (heard_along m r edges) ++ ends_open (reader_after m
 
 -- What an edge brings to an open attempt: it goes on; or it is cut and the edge opens the next; or it ends and edges are dropped.
 data Turns (x : ℕ) : Step → Type 0 where
-  on : (at bits : ℕ) → Turns x (step Nothing (Open at x bits))
-  cut : Turns x (step (Ended Cut) (Open 1 x 0))
-  over : (ending : Ending) → Turns x (step (Ended ending) (Dropping x))
+  on : (at bits : ℕ) → Turns x (step None (Open at x bits))
+  cut : Turns x (step (Some (Err Cut)) (Open 1 x 0))
+  over : (ending : Ending) → Turns x (step (Some ending) (Dropping x))
 
 arrived : (at bits x : ℕ) → Turns x (arrives at bits x)
 unfolding arrives
 arrived at bits x = by (eqb at 157) (agrees bits)
   where
-    by : (t g : Bool) → Turns x (cond t (step (Ended (cond g (Good (bits % 2 ^ 48)) Check)) (Dropping x)) (step Nothing (Open at x bits)))
+    by : (t g : Bool) → Turns x (cond t (step (Some (cond g (Ok (bits % 2 ^ 48)) (Err Check))) (Dropping x)) (step None (Open at x bits)))
     by false g = on at bits
-    by true g = over (cond g (Good (bits % 2 ^ 48)) Check)
+    by true g = over (cond g (Ok (bits % 2 ^ 48)) (Err Check))
 
 turns : (mode : LineMode) (at bits x : ℕ) (j : Judgement) → Turns x (goes_on mode at bits x j)
 unfolding goes_on
 turns mode at bits x Quiet = cut
-turns mode at bits x Unfit = over Gap
+turns mode at bits x Unfit = over (Err Gap)
 turns mode at bits x (Positions k) = by (asks mode at k)
   where
-    by : (t : Bool) → Turns x (cond t (arrives (at + k) (with_bit at k bits) x) (step (Ended Gap) (Dropping x)))
+    by : (t : Bool) → Turns x (cond t (arrives (at + k) (with_bit at k bits) x) (step (Some (Err Gap)) (Dropping x)))
     by true = arrived (at + k) (with_bit at k bits) x
-    by false = over Gap
+    by false = over (Err Gap)
 
 -- From `at` on a reader's edges tell what stands before, and then what a fresh reader tells from the place `next` on.
 pub record Goes (m : LineMode) (r : Reader) (edges : List ℕ) (at next : ℕ) (before : List Ending) : Type 0 where
@@ -76,7 +74,7 @@ drop_later x rest at next h = ap (λ (n : ℕ). drop n (x ∷ rest)) (let e : su
 
 module _ (m : LineMode) (r : Reader) (x : ℕ) (rest : List ℕ) (at next : ℕ) where
   -- An edge at which nothing is said,
-  silent_edge : (r' : Reader) (before : List Ending) → edge_of m r x ≡ step Nothing r' → Goes m r' rest (at + 1) next before
+  silent_edge : (r' : Reader) (before : List Ending) → edge_of m r x ≡ step None r' → Goes m r' rest (at + 1) next before
       → Goes m r (x ∷ rest) at next before
   silent_edge r' before e g =
       record {
@@ -88,7 +86,7 @@ module _ (m : LineMode) (r : Reader) (x : ℕ) (rest : List ℕ) (at next : ℕ)
       }
 
   -- and one that ends an attempt.
-  ending_edge : (ending : Ending) (r' : Reader) → edge_of m r x ≡ step (Ended ending) r' → Goes m r' rest (at + 1) next []
+  ending_edge : (ending : Ending) (r' : Reader) → edge_of m r x ≡ step (Some ending) r' → Goes m r' rest (at + 1) next []
       → Goes m r (x ∷ rest) at next (ending ∷ [])
   ending_edge ending r' e g =
       record {
@@ -101,7 +99,7 @@ module _ (m : LineMode) (r : Reader) (x : ℕ) (rest : List ℕ) (at next : ℕ)
       }
 
 -- The edge that opens an attempt is as the first edge of a fresh reader.
-opening_edge : (m : LineMode) (r : Reader) (x : ℕ) (rest : List ℕ) (at : ℕ) → edge_of m r x ≡ step Nothing (Open 1 x 0) → Goes m r (x ∷ rest) at at []
+opening_edge : (m : LineMode) (r : Reader) (x : ℕ) (rest : List ℕ) (at : ℕ) → edge_of m r x ≡ step None (Open 1 x 0) → Goes m r (x ∷ rest) at at []
 unfolding edge_of
 opening_edge m r x rest at e =
     record {
@@ -112,7 +110,7 @@ opening_edge m r x rest at e =
           ∙ ap (λ (n : ℕ). told_by m Fresh (drop n (x ∷ rest))) (let z : 0 ≡ at - at = omega arith in z);
     }
 
-cutting_edge : (m : LineMode) (r : Reader) (x : ℕ) (rest : List ℕ) (at : ℕ) → edge_of m r x ≡ step (Ended Cut) (Open 1 x 0) → Goes m r (x ∷ rest) at at (Cut ∷ [])
+cutting_edge : (m : LineMode) (r : Reader) (x : ℕ) (rest : List ℕ) (at : ℕ) → edge_of m r x ≡ step (Some (Err Cut)) (Open 1 x 0) → Goes m r (x ∷ rest) at at ((Err Cut) ∷ [])
 unfolding edge_of
 cutting_edge m r x rest at e =
     record {
@@ -120,13 +118,13 @@ cutting_edge m r x rest at e =
       most = omega arith;
       told =
           ap (λ (b : Step). tells m b rest) e
-          ∙ ap (λ (n : ℕ). Cut ∷ told_by m Fresh (drop n (x ∷ rest))) (let z : 0 ≡ at - at = omega arith in z);
+          ∙ ap (λ (n : ℕ). (Err Cut) ∷ told_by m Fresh (drop n (x ∷ rest))) (let z : 0 ≡ at - at = omega arith in z);
     }
 
 -- What an edge brings while edges are dropped.
 data Drops (x : ℕ) : Step → Type 0 where
-  stays : Drops x (step Nothing (Dropping x))
-  opens : Drops x (step Nothing (Open 1 x 0))
+  stays : Drops x (step None (Dropping x))
+  opens : Drops x (step None (Open 1 x 0))
 
 drops : (x : ℕ) (j : Judgement) → Drops x (drops_on x j)
 unfolding drops_on
@@ -149,7 +147,7 @@ dropping m z (x ∷ rest) at = by (dropping m x rest (at + 1)) (edge_of m (Dropp
 record Leads (m : LineMode) (r : Reader) (edges : List ℕ) (at : ℕ) (outcome : ReadOutcome) : Type 0 where
   ending : Ending
   next : ℕ
-  told : outcome ≡ Attempt ending next
+  told : outcome ≡ attempt ending next
   goes : Goes m r edges at next (ending ∷ [])
 
 -- So do those of an open attempt,
@@ -157,10 +155,10 @@ attempting : (m : LineMode) (p y b : ℕ) (edges : List ℕ) (at : ℕ) → Lead
 unfolding attempt_of opens_at
 attempting m p y b [] at =
     record {
-      ending = Cut;
+      ending = (Err Cut);
       next = at;
       told = refl;
-      goes = record { least = le_refl at; most = omega arith; told = sym (ap (λ (l : List ℕ). Cut ∷ told_by m Fresh l) (drop-nil (at - at))) };
+      goes = record { least = le_refl at; most = omega arith; told = sym (ap (λ (l : List ℕ). (Err Cut) ∷ told_by m Fresh l) (drop-nil (at - at))) };
     }
 attempting m p y b (x ∷ rest) at =
     by (λ p' y' b'. attempting m p' y' b' rest (at + 1)) (edge_of m (Open p y b) x) refl
@@ -176,7 +174,7 @@ attempting m p y b (x ∷ rest) at =
           told = rw e l.told;
           goes = silent_edge m (Open p y b) x rest at l.next (Open p' x b') (l.ending ∷ []) e l.goes;
         }
-    by ih brought e cut = record { ending = Cut; next = at; told = rw e; goes = cutting_edge m (Open p y b) x rest at e }
+    by ih brought e cut = record { ending = (Err Cut); next = at; told = rw e; goes = cutting_edge m (Open p y b) x rest at e }
     by ih brought e (over ending) =
         record {
           ending = ending;
@@ -189,7 +187,7 @@ attempting m p y b (x ∷ rest) at =
 pub record GoesForward (outcome : ReadOutcome) (capture : List ℕ) (place : ℕ) : Type 0 where
   pub ending : Ending
   pub next : ℕ
-  pub told : outcome ≡ Attempt ending next
+  pub told : outcome ≡ attempt ending next
   pub forward : place < next
   pub inside : next ≤ length capture
 
@@ -231,9 +229,9 @@ walk_step m capture place h =
     (walk_from m capture place h (drop place capture) refl)
 
 -- The call by a mode's number is that in the mode which it names.
-pub read_known : (mode : ℕ) (m : LineMode) (capture : List ℕ) (place : ℕ) → mode_of mode ≡ Known m → read_of mode capture place ≡ read_in m capture place
+pub read_known : (mode : ℕ) (m : LineMode) (capture : List ℕ) (place : ℕ) → mode_of mode ≡ Some m → read_of mode capture place ≡ read_in m capture place
 unfolding read_of
-read_known mode m capture place known = ap (λ (f : Found). by_mode f (λ n. read_in n capture place) UnknownMode) known
+read_known mode m capture place known = ap (λ (f : Option LineMode). by_mode f (λ n. read_in n capture place) (Err refusal.Mode)) known
 
 -- At the end of a capture, or past it, no attempt is left.
 module _ (m : LineMode) (capture : List ℕ) (place : ℕ) (h : length capture ≤ place) where
@@ -245,34 +243,34 @@ module _ (m : LineMode) (capture : List ℕ) (place : ℕ) (h : length capture �
   none_read from = by (ltb (length capture) place) refl (eqb place (length capture)) refl
     where
       by : (t : Bool) → ltb (length capture) place ≡ t → (u : Bool) → eqb place (length capture) ≡ u
-          → onwards (cond t PastTheEnd (cond u AtTheEnd (attempt_of m Fresh (drop place capture) place))) from ≡ []
+          → onwards (cond t (Err refusal.Room) (cond u (Ok None) (attempt_of m Fresh (drop place capture) place))) from ≡ []
       by true e u f = refl
       by false e true f = refl
       by false e false f = absurd (eqb-false place (length capture) f (let l = ltb-false (length capture) place e in omega arith))
 
 -- So a call that brings an attempt was inside the capture, and goes forward in it.
-pub attempt_forward : (mode : ℕ) (capture : List ℕ) (place : ℕ) (ending : Ending) (next : ℕ) → read_of mode capture place ≡ Attempt ending next
+pub attempt_forward : (mode : ℕ) (capture : List ℕ) (place : ℕ) (ending : Ending) (next : ℕ) → read_of mode capture place ≡ attempt ending next
     → (place < next) × (next ≤ length capture)
 unfolding read_of
 attempt_forward mode capture place ending next h = by (mode_of mode) h
   where
-    inside : (m : LineMode) → read_in m capture place ≡ Attempt ending next → (t : Bool) → ltb place (length capture) ≡ t → (place < next) × (next ≤ length capture)
+    inside : (m : LineMode) → read_in m capture place ≡ attempt ending next → (t : Bool) → ltb place (length capture) ≡ t → (place < next) × (next ≤ length capture)
     inside m h true e =
         let g = (walk_step m capture place (ltb-true place (length capture) e)).goes in
-        let same : g.next ≡ next = let told = g.told in cc in
+        let same : g.next ≡ next = same_next (sym g.told ∙ h) in
         let f = g.forward in
         let i = g.inside in (omega arith, omega arith)
     inside m h false e =
         let none = none_read m capture place (ltb-false place (length capture) e) (λ n. []) in
         absurd (let z : ending ∷ [] ≡ [] = ap (λ (o : ReadOutcome). onwards o (λ n. [])) (sym h) ∙ none in let l = ap length z in omega arith)
 
-    by : (f : Found) → by_mode f (λ m. read_in m capture place) UnknownMode ≡ Attempt ending next → (place < next) × (next ≤ length capture)
-    by Unknown h = absurd (let z : ◌≡◌ {A = ℕ} 0 1 = cc h in omega arith)
-    by (Known m) h = inside m h (ltb place (length capture)) refl
+    by : (f : Option LineMode) → by_mode f (λ m. read_in m capture place) (Err refusal.Mode) ≡ attempt ending next → (place < next) × (next ≤ length capture)
+    by None h = absurd (let z : ◌≡◌ {A = ℕ} 0 1 = cc h in omega arith)
+    by (Some m) h = inside m h (ltb place (length capture)) refl
 
 -- The walk tells just the attempts that a reader tells edge by edge along the capture, each once and in order; and as many calls as there are
 -- edges left are enough.
-pub attempts_told : (mode : ℕ) (m : LineMode) → mode_of mode ≡ Known m → (capture : List ℕ) (more place : ℕ) → length capture ≤ place + more
+pub attempts_told : (mode : ℕ) (m : LineMode) → mode_of mode ≡ Some m → (capture : List ℕ) (more place : ℕ) → length capture ≤ place + more
     → attempts_from more mode capture place ≡ told_by m Fresh (drop place capture)
 unfolding attempts_from
 attempts_told mode m known capture zero place h = sym (none_told m capture place (omega arith))

@@ -1,6 +1,7 @@
 -- What is written is read back. The readings of a page at nominal spacing have gaps of so many spacings each, which lie in their windows; so the
 -- theorem of ReadBack holds of them, also where they stand in a list among others.
-use Rattle.std.specs.Prelude.{if◌then◌else◌}
+use Rattle.answers.specs.declared.Refusal.TheVariants as refusal
+use Rattle.std.specs.Prelude.{if◌then◌else◌, Option, Some, None, Ok, Err}
 use mathlib.Core.Path.{◌≡◌, refl, sym, ap, ap₂, ◌∙◌, subst}
 use mathlib.Core.Bool.{Bool, true, false}
 use mathlib.Core.List.{List, [], ◌∷◌, ◌++◌, map, map-append, Forall₂}
@@ -15,18 +16,14 @@ use Rattle.page_word.specs.Word.{is_wide}
 use Rattle.answers.specs.Answers.{Said, number, page_read, Leaves, leaving, put_at, kept}
 use Rattle.answers.specs.declared.Refusal.TheVariants.{Room, Wide, Mode}
 use Rattle.line_mode.specs.declared.modes.LineMode.{LineMode}
-use Rattle.line_reader.specs.declared.endings.Ending.TheVariants.{Good}
 use Rattle.line_reader.specs.declared.reader.Reader.TheVariants.{Fresh, Dropping}
-use Rattle.line_captures.specs.declared.captures.ReadOutcome.TheVariants.{UnknownMode, Attempt}
-use Rattle.line_mode.specs.declared.modes.Found.{Found}
-use Rattle.line_mode.specs.declared.modes.Found.TheVariants.{Known, Unknown}
 use Rattle.line_mode.specs.Modes.{hsm_mode, lsm_mode, mode_of, by_mode}
 use Rattle.line_mode.specs.Clock.{time_between}
 use Rattle.line_page.specs.Pattern.{delimiter_of, hsm_delimiter, lsm_delimiter}
 use Rattle.line_page.proofs.Positions.{by_delimiter}
 use Rattle.line_writer.specs.Transitions.{transitions, sent_bits, has_transition, positions_to, reading_at, readings, edge_count}
 use Rattle.line_writer.specs.Writing.{write_in, write_of}
-use Rattle.line_captures.specs.Captures.{said_of_read, opens_at, attempt_of, read_in, read_of}
+use Rattle.line_captures.specs.Captures.{said_of_read, opens_at, attempt_of, read_in, read_of, attempt}
 use Rattle.line_mode.proofs.Windows.{Apart, Near, hsm_apart, lsm_apart}
 use Rattle.line_writer.proofs.SentBits.{sent_length}
 use Rattle.line_writer.proofs.PagePattern.{at_clock}
@@ -112,16 +109,16 @@ module _ (m : LineMode) (apart : Apart m) (clock : 4 * m.spacing < 2 ^ 32) (w fi
   -- A written page is read, whatever follows it,
   pub written_read : (at : ℕ) (rest : List ℕ)
       → attempt_of m Fresh (readings m w first ++ rest) at
-      ≡ Attempt (Good w) (opens_at m (Dropping (reading_at m.spacing first 157)) rest (at + edge_count m w))
+      ≡ attempt (Ok w) (opens_at m (Dropping (reading_at m.spacing first 157)) rest (at + edge_count m w))
   written_read at rest =
       page_answer m Fresh w (last_of 0 (readings m w first)) at (readings m w first) rest
       (fresh_reads m apart w word (readings m w first) (written_carries m first clock w))
-      ∙ ap₂ (λ (x n : ℕ). Attempt (Good w) (opens_at m (Dropping x) rest (at + n))) (last_written m w first) (count_written m w first)
+      ∙ ap₂ (λ (x n : ℕ). attempt (Ok w) (opens_at m (Dropping x) rest (at + n))) (last_written m w first) (count_written m w first)
 
   -- and so it is by the read call at the place where the write call put it.
   pub placed_read : (list : List ℕ) (place : ℕ) → place + edge_count m w ≤ length list
       → read_in m (put_at place (readings m w first) list) place
-      ≡ Attempt (Good w) (opens_at m (Dropping (reading_at m.spacing first 157)) (drop (place + edge_count m w) list) (place + edge_count m w))
+      ≡ attempt (Ok w) (opens_at m (Dropping (reading_at m.spacing first 157)) (drop (place + edge_count m w) list) (place + edge_count m w))
   unfolding read_in
   placed_read list place room =
       let some = has_edges m list place w first word in
@@ -159,13 +156,13 @@ pub write_then_read : (mode : ℕ) (list : List ℕ) (place w first n : ℕ)
 unfolding write_of read_of mode_of
 write_then_read mode list place w first n h = by (eqb mode 0) (eqb mode 1) h
   where
-    named : (a b : Bool) → Found
-    named a b = if a then Known hsm_mode else if b then Known lsm_mode else Unknown
+    named : (a b : Bool) → Option LineMode
+    named a b = if a then Some hsm_mode else if b then Some lsm_mode else None
 
     write : (a b : Bool) → Leaves
     write a b = by_mode (named a b) (λ m. write_in m list place w first) (kept Mode list)
 
-    by : (a b : Bool) → (write a b).says ≡ number n → said_of_read (by_mode (named a b) (λ m. read_in m (write a b).list place) UnknownMode) ≡ page_read w
+    by : (a b : Bool) → (write a b).says ≡ number n → said_of_read (by_mode (named a b) (λ m. read_in m (write a b).list place) (Err refusal.Mode)) ≡ page_read w
     by true b h = in_mode hsm_mode hsm_apart (omega arith) list place w first n h
     by false true h = in_mode lsm_mode lsm_apart (omega arith) list place w first n h
     by false false h = absurd (let k = ap (λ (a : Said). a.kind) h in omega arith)

@@ -1,6 +1,6 @@
 -- The customer's demand 2, for the line. 01, "What the promises have to say": "pages within the windows must be read". They are read as themselves,
 -- and nothing else is read as a page.
-use Rattle.std.specs.Prelude.{ℕ, ◌+◌, ◌-◌, ◌^◌, ◌<◌, ◌≤◌, ◌≡◌, Bool, true, length, drop, if◌then◌else◌}
+use Rattle.std.specs.Prelude.{ℕ, ◌+◌, ◌-◌, ◌^◌, ◌<◌, ◌≤◌, ◌≡◌, Bool, true, length, drop, if◌then◌else◌, Some, None, Ok, Err}
 use mathlib.Core.List.{List, [], ◌∷◌, ◌++◌, Forall₂}
 use Rattle.answers.specs.Choices.{◌≤?◌}
 use Rattle.answers.specs.Answers.{number, page_read}
@@ -9,16 +9,12 @@ use Rattle.line_mode.specs.Clock.{time_between}
 use Rattle.line_mode.specs.Gaps.{within}
 use Rattle.line_writer.specs.Transitions.{transitions, readings, edge_count}
 use Rattle.line_writer.specs.Writing.{write_of}
-use Rattle.line_reader.specs.declared.endings.Ending.{Ending}
-use Rattle.line_reader.specs.declared.endings.Ending.TheVariants.{Good, Cut}
-use Rattle.line_reader.specs.declared.endings.Heard.{Heard}
-use Rattle.line_reader.specs.declared.endings.Heard.TheVariants.{Nothing, Ended}
+use Rattle.line_reader.specs.declared.endings.Broken.TheVariants.{Cut}
 use Rattle.line_reader.specs.declared.reader.Reader.{Reader}
 use Rattle.line_reader.specs.declared.reader.Reader.TheVariants.{Fresh}
-use Rattle.line_reader.specs.Endings.{said_of_heard}
+use Rattle.line_reader.specs.Endings.{said_of_heard, Ending, Heard}
 use Rattle.line_reader.specs.Reading.{edge_of, heard_along, reader_after}
-use Rattle.line_captures.specs.declared.captures.ReadOutcome.TheVariants.{Attempt}
-use Rattle.line_captures.specs.Captures.{said_of_read, is_open, read_of, attempts_from}
+use Rattle.line_captures.specs.Captures.{said_of_read, is_open, read_of, attempts_from, attempt}
 
 -- What lies between each entry of a list and the one before it: between those behind x,
 abbrev pub gaps_after : (between : ℕ → ℕ → ℕ) (x : ℕ) (behind : List ℕ) → List ℕ
@@ -69,24 +65,24 @@ pub record BeginsWith (m : LineMode) (w : ℕ) (edges : List ℕ) : Type 0 where
 -- How attempts ended, of what was heard edge by edge,
 abbrev pub endings : List Heard → List Ending
 endings [] = []
-endings (Nothing ∷ rest) = endings rest
-endings (Ended ending ∷ rest) = ending ∷ endings rest
+endings (None ∷ rest) = endings rest
+endings (Some ending ∷ rest) = ending ∷ endings rest
 
 -- and "the end of the capture counting as quiet": a Cut, if an attempt is open there.
 abbrev pub ends_open : Reader → List Ending
-ends_open reader = if is_open reader then Cut ∷ [] else []
+ends_open reader = if is_open reader then (Err Cut) ∷ [] else []
 
 -- What holds of a mode's number and the mode that it names.
 pub record ReadingBack (mode : ℕ) (m : LineMode) : Type 0 where
   -- A page at nominal spacing lies within the windows, from any first reading on.
   pub nominal : (w first : ℕ) → Carries m w (readings m w first)
   -- Every word's page, each gap in its window, is read by a fresh reader: nothing is heard until its last edge, and there the word.
-  pub fresh : (w : ℕ) (edges : List ℕ) → w < 2 ^ 48 → Carries m w edges → heard_along m Fresh edges ≡ only_last Nothing edges (Ended (Good w))
+  pub fresh : (w : ℕ) (edges : List ℕ) → w < 2 ^ 48 → Carries m w edges → heard_along m Fresh edges ≡ only_last None edges (Some (Ok w))
   -- So it is after any other edges, if quiet lies between. "A quiet gap in an attempt ends it (Cut), and that edge opens the next"; with no attempt open,
   -- edges are dropped "until one follows a quiet gap; it opens an attempt".
   pub after_quiet : (past : List ℕ) (last x w : ℕ) (edges : List ℕ) → m.quiet ≤ time_between x last → w < 2 ^ 48 → Carries m w (x ∷ edges)
       → let reader = reader_after m Fresh (past ++ (last ∷ [])) in
-      heard_along m reader (x ∷ edges) ≡ (if is_open reader then Ended Cut else Nothing) ∷ only_last Nothing edges (Ended (Good w))
+      heard_along m reader (x ∷ edges) ≡ (if is_open reader then Some (Err Cut) else None) ∷ only_last None edges (Some (Ok w))
   -- No edges carry two words.
   pub one_word : (v w : ℕ) (edges : List ℕ) → v < 2 ^ 48 → w < 2 ^ 48 → Carries m v edges → Carries m w edges → v ≡ w
   -- Nothing else is read as a page: where a reader says a word, after whatever edges since it was fresh, the last edges carry it, and the
@@ -101,7 +97,7 @@ pub record ReadingBack (mode : ℕ) (m : LineMode) : Type 0 where
       → ((write_of mode list place w first).says ≡ number (edge_count m w)) × (said_of_read (read_of mode (write_of mode list place w first).list place) ≡ page_read w)
   -- Reading goes forward and stays in the capture: inside it there is an attempt, and its next place,
   pub forward : (capture : List ℕ) (place : ℕ) → place < length capture
-      → (ending : Ending) × (next : ℕ) × (read_of mode capture place ≡ Attempt ending next) × (place < next) × (next ≤ length capture)
+      → (ending : Ending) × (next : ℕ) × (read_of mode capture place ≡ attempt ending next) × (place < next) × (next ≤ length capture)
   -- and so ends: as many calls as there are edges left, each at the next place of the one before, tell each attempt once and in order, as a reader
   -- tells them edge by edge.
   pub each_once : (capture : List ℕ) (place more : ℕ) → length capture ≤ place + more

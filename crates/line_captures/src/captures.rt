@@ -5,30 +5,28 @@ ghost use Rattle.line_reader.specs.declared.reader.Reader.TheVariants.{Fresh, Op
 ghost use Rattle.line_captures.specs.Captures.{is_open, opens_at, attempt_of, read_in, read_of, said_of_read};
 
 use answers::{Answer, Refusal};
-use line_mode::{Found, LineMode, mode_of};
-use line_reader::{Ending, Heard, Reader, drop_on, go_on};
+use line_mode::{LineMode, mode_of};
+use line_reader::{Broken, Ending, Reader, answer_to_ending, drop_on, go_on};
 
-// What reading a capture from a place on brings: no mode has that number; the place is past the end, or at it; or how the first attempt
-// ends, and where the next one opens.
+// An attempt of a capture: how it ends, and where the next one opens.
 #[derive(Clone, Copy)]
-pub enum ReadOutcome {
-    UnknownMode,
-    PastTheEnd,
-    AtTheEnd,
-    Attempt { ending: Ending, next: usize },
+pub struct Attempt {
+    pub ending: Ending,
+    pub next: usize,
 }
 
-impl ReadOutcome {
-    // The outcome as an answer.
-    pub fn answer(self) -> Answer
-        ensures { said result ≡ said_of_read self }
-    {
-        match self {
-            ReadOutcome::UnknownMode => Answer::Refused(Refusal::Mode),
-            ReadOutcome::PastTheEnd => Answer::Refused(Refusal::Room),
-            ReadOutcome::AtTheEnd => Answer::Nothing,
-            ReadOutcome::Attempt { ending, next } => ending.answer(),
-        }
+// What reading a capture from a place on brings: the first attempt, if there is one; none at the end. A number that names no mode, and a
+// place past the end, are refused.
+pub type ReadOutcome = Result<Option<Attempt>, Refusal>;
+
+// What reading has come to, as an answer: no `From`, since neither `Result` nor `Answer` is this crate's.
+pub fn answer_to_read(outcome: ReadOutcome) -> Answer
+    ensures { said result ≡ said_of_read outcome }
+{
+    match outcome {
+        Ok(Some(attempt)) => answer_to_ending(attempt.ending),
+        Ok(None) => Answer::Nothing,
+        Err(refusal) => Answer::Refused(refusal),
     }
 }
 
@@ -36,11 +34,7 @@ impl ReadOutcome {
 fn is_open(reader: Reader) -> bool
     ensures { result ≡ is_open reader }
 {
-    match reader {
-        Reader::Fresh => false,
-        Reader::Open { at, last, bits } => true,
-        Reader::Dropping { last } => false,
-    }
+    matches!(reader, Reader::Open { .. })
 }
 
 // The place of the first edge from an index of the tail on that follows a quiet gap; the tail stands at a place of the capture. The edge
@@ -100,9 +94,9 @@ fn bits_of(reader: Reader) -> u64
 
 // The first attempt of a capture's tail that stands at a place: its first edge opens it. The loop holds the attempt as numbers, since an edge costs
 // twice as much where the reader goes through memory.
-fn first_attempt(tail: &[u32], place: usize, mode: LineMode) -> ReadOutcome
+fn first_attempt(tail: &[u32], place: usize, mode: LineMode) -> Attempt
     requires { (1 ≤ length tail.now) × (place + length tail.now ≤ 18446744073709551615) }
-    ensures { result ≡ attempt_of mode Fresh tail.now place }
+    ensures { Ok (Some result) ≡ attempt_of mode Fresh tail.now place }
 {
     let mut at: u32 = 1;
     let mut last = tail[0];
@@ -114,10 +108,10 @@ fn first_attempt(tail: &[u32], place: usize, mode: LineMode) -> ReadOutcome
         let reader = step.reader;
         let heard = step.heard;
         match heard {
-            Heard::Nothing => {}
-            Heard::Ended(ending) => {
-                return ReadOutcome::Attempt {
-                    ending: ending,
+            None => {}
+            Some(ending) => {
+                return Attempt {
+                    ending,
                     next: next_opens(tail, place, i, mode, reader),
                 };
             }
@@ -127,8 +121,8 @@ fn first_attempt(tail: &[u32], place: usize, mode: LineMode) -> ReadOutcome
         bits = bits_of(reader);
         i += 1;
     }
-    ReadOutcome::Attempt {
-        ending: Ending::Cut,
+    Attempt {
+        ending: Err(Broken::Cut),
         next: place + i,
     }
 }
@@ -139,12 +133,12 @@ fn read_in(capture: &[u32], place: usize, mode: LineMode) -> ReadOutcome
     ensures { result ≡ read_in mode capture.now place }
 {
     if capture.len() < place {
-        return ReadOutcome::PastTheEnd;
+        return Err(Refusal::Room);
     }
     if place == capture.len() {
-        return ReadOutcome::AtTheEnd;
+        return Ok(None);
     }
-    first_attempt(&capture[place..], place, mode)
+    Ok(Some(first_attempt(&capture[place..], place, mode)))
 }
 
 // The first attempt from a place of a capture on: how it ends, and where the next one opens.
@@ -152,8 +146,6 @@ fn read_in(capture: &[u32], place: usize, mode: LineMode) -> ReadOutcome
 pub fn read(capture: &[u32], place: usize, mode: u32) -> ReadOutcome
     ensures { result ≡ read_of mode capture.now place }
 {
-    match mode_of(mode) {
-        Found::Known(m) => read_in(capture, place, m),
-        Found::Unknown => ReadOutcome::UnknownMode,
-    }
+    let known = mode_of(mode).ok_or(Refusal::Mode)?;
+    read_in(capture, place, known)
 }

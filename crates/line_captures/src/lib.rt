@@ -3,4 +3,4 @@
 
 mod captures;
 
-pub use captures::{ReadOutcome, read};
+pub use captures::{Attempt, ReadOutcome, answer_to_read, read};

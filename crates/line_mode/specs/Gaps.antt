@@ -1,7 +1,8 @@
 -- 01, "The line": judging a gap, over the numbers of any mode.
-use Rattle.std.specs.Prelude.{ℕ, ◌+◌, ◌*◌, Bool, ◌&&◌, if◌then◌else◌}
+use Rattle.std.specs.Prelude.{ℕ, ◌+◌, ◌*◌, Bool, ◌&&◌, if◌then◌else◌, Result, Ok, Err}
 use Rattle.answers.specs.Choices.{◌≤?◌}
 use Rattle.answers.specs.Answers.{Said, refused, number, gap_quiet, gap_unfit}
+use Rattle.answers.specs.declared.Refusal.{Refusal}
 use Rattle.answers.specs.declared.Refusal.TheVariants.{Mode}
 use Rattle.line_mode.specs.declared.modes.LineMode.{LineMode}
 use Rattle.line_mode.specs.declared.modes.Judgement.{Judgement}
@@ -28,6 +29,11 @@ abbrev pub said_of_gap : Judgement → Said
 said_of_gap (Positions k) = number k
 said_of_gap Quiet = gap_quiet
 said_of_gap Unfit = gap_unfit
+
+-- What the judge call says, which judges or refuses.
+abbrev pub said_of_judging : Result Judgement Refusal → Said
+said_of_judging (Ok judgement) = said_of_gap judgement
+said_of_judging (Err refusal) = refused refusal
 
 -- The judge call.
 unfoldable pub judged : (mode gap : ℕ) → Said

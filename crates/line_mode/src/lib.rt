@@ -5,4 +5,4 @@ mod clock;
 mod modes;
 
 pub use clock::time_between;
-pub use modes::{Found, Judgement, LineMode, judge, mode_of};
+pub use modes::{Judgement, LineMode, answer_to_judging, judge, mode_of};

@@ -4,7 +4,7 @@ ghost use Rattle.answers.specs.Choices.{◌≤?◌};
 ghost use Rattle.answers.specs.Answers.{said};
 ghost use Rattle.line_mode.specs.declared.modes.Judgement.TheVariants.{Quiet, Unfit};
 ghost use Rattle.line_mode.specs.Modes.{hsm_mode, lsm_mode, mode_of};
-ghost use Rattle.line_mode.specs.Gaps.{judgement_of, said_of_gap, judged};
+ghost use Rattle.line_mode.specs.Gaps.{judgement_of, said_of_gap, said_of_judging, judged};
 
 use answers::{Answer, Refusal};
 
@@ -15,13 +15,6 @@ pub struct LineMode {
     pub tolerance: u32,
     pub quiet: u32,
     pub slow: bool,
-}
-
-// The mode that a number names.
-#[derive(Drop)]
-pub enum Found {
-    Known(LineMode),
-    Unknown,
 }
 
 // What a gap is.
@@ -99,38 +92,46 @@ impl LineMode {
     }
 }
 
-// The mode of a number: 0 is HSM, 1 is LSM.
+// The mode that a number names: 0 is HSM, 1 is LSM.
 #[tactic(auto, unfolding(crate::specs::Modes::mode_of))]
-pub fn mode_of(number: u32) -> Found
+pub fn mode_of(number: u32) -> Option<LineMode>
     ensures { result ≡ mode_of number }
 {
-    if number == 0 {
-        return Found::Known(LineMode::hsm());
-    }
-    if number == 1 {
-        return Found::Known(LineMode::lsm());
-    }
-    Found::Unknown
-}
-
-// A judgement as an answer.
-fn answer_of(judgement: Judgement) -> Answer
-    ensures { said result ≡ said_of_gap judgement }
-{
-    match judgement {
-        Judgement::Positions(k) => Answer::Number(k as u64),
-        Judgement::Quiet => Answer::Quiet,
-        Judgement::Unfit => Answer::Unfit,
+    match number {
+        0 => Some(LineMode::hsm()),
+        1 => Some(LineMode::lsm()),
+        _ => None,
     }
 }
 
 // How a gap counts in the mode of a number.
 #[tactic(auto, unfolding(crate::specs::Gaps::judged))]
-pub fn judge(mode: u32, gap: u32) -> Answer
-    ensures { said result ≡ judged mode gap }
+pub fn judge(mode: u32, gap: u32) -> Result<Judgement, Refusal>
+    ensures { said_of_judging result ≡ judged mode gap }
 {
-    match mode_of(mode) {
-        Found::Known(m) => answer_of(m.judgement(gap)),
-        Found::Unknown => Answer::Refused(Refusal::Mode),
+    let known = mode_of(mode).ok_or(Refusal::Mode)?;
+    Ok(known.judgement(gap))
+}
+
+impl From<Judgement> for Answer {
+    // A judgement as an answer.
+    fn from(judgement: Judgement) -> Answer
+        ensures { said result ≡ said_of_gap judgement }
+    {
+        match judgement {
+            Judgement::Positions(k) => Answer::Number(u64::from(k)),
+            Judgement::Quiet => Answer::Quiet,
+            Judgement::Unfit => Answer::Unfit,
+        }
+    }
+}
+
+// What judging has come to, as an answer: no `From`, since neither `Result` nor `Answer` is this crate's.
+pub fn answer_to_judging(judging: Result<Judgement, Refusal>) -> Answer
+    ensures { said result ≡ said_of_judging judging }
+{
+    match judging {
+        Ok(judgement) => Answer::from(judgement),
+        Err(refusal) => Answer::Refused(refusal),
     }
 }

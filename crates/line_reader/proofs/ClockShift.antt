@@ -1,5 +1,6 @@
 -- The clock's shift: the time between two readings is the same if both are later by δ modulo 2^32. So a reader whose stored reading is later by
 -- δ hears the same at an edge that is.
+use Rattle.std.specs.Prelude.{Some, None, Err}
 use mathlib.Core.Path.{◌≡◌, refl, ap, ◌∙◌}
 use mathlib.Core.Bool.{Bool, true, false, cond}
 use Prim.Native.Nat.{ℕ, ◌+◌, ◌-◌, ◌%◌, ◌^◌, ◌<◌}
@@ -10,8 +11,7 @@ use lib.Pow.{pow_pos}
 use Rattle.line_mode.specs.declared.modes.LineMode.{LineMode}
 use Rattle.line_mode.specs.declared.modes.Judgement.{Judgement}
 use Rattle.line_mode.specs.declared.modes.Judgement.TheVariants.{Positions, Quiet, Unfit}
-use Rattle.line_reader.specs.declared.endings.Ending.TheVariants.{Gap}
-use Rattle.line_reader.specs.declared.endings.Heard.TheVariants.{Nothing, Ended}
+use Rattle.line_reader.specs.declared.endings.Broken.TheVariants.{Gap}
 use Rattle.line_reader.specs.declared.reader.Reader.{Reader}
 use Rattle.line_reader.specs.declared.reader.Reader.TheVariants.{Fresh, Open, Dropping}
 use Rattle.line_reader.specs.declared.reader.Step.{Step}
@@ -57,7 +57,7 @@ choice_later δ false b c = refl
 arrives_later : (δ at bits reading : ℕ) → arrives at bits ((reading + δ) % 2 ^ 32) ≡ step_later δ (arrives at bits reading)
 unfolding arrives
 arrives_later δ at bits reading =
-    choice_later δ (eqb at 157) (step (Ended (page_end bits)) (Dropping reading)) (step Nothing (Open at reading bits))
+    choice_later δ (eqb at 157) (step (Some (page_end bits)) (Dropping reading)) (step None (Open at reading bits))
 
 goes_on_later : (δ : ℕ) (m : LineMode) (at bits reading : ℕ) (j : Judgement)
     → goes_on m at bits ((reading + δ) % 2 ^ 32) j ≡ step_later δ (goes_on m at bits reading j)
@@ -65,8 +65,8 @@ unfolding goes_on
 goes_on_later δ m at bits reading Quiet = refl
 goes_on_later δ m at bits reading Unfit = refl
 goes_on_later δ m at bits reading (Positions k) =
-    ap (λ (b : Step). cond (asks m at k) b (step (Ended Gap) (Dropping ((reading + δ) % 2 ^ 32)))) (arrives_later δ (at + k) (with_bit at k bits) reading)
-    ∙ choice_later δ (asks m at k) (arrives (at + k) (with_bit at k bits) reading) (step (Ended Gap) (Dropping reading))
+    ap (λ (b : Step). cond (asks m at k) b (step (Some (Err Gap)) (Dropping ((reading + δ) % 2 ^ 32)))) (arrives_later δ (at + k) (with_bit at k bits) reading)
+    ∙ choice_later δ (asks m at k) (arrives (at + k) (with_bit at k bits) reading) (step (Some (Err Gap)) (Dropping reading))
 
 drops_on_later : (δ reading : ℕ) (j : Judgement) → drops_on ((reading + δ) % 2 ^ 32) j ≡ step_later δ (drops_on reading j)
 unfolding drops_on

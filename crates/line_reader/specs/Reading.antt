@@ -1,14 +1,12 @@
 -- 01, "The line": "Reading goes edge by edge."
-use Rattle.std.specs.Prelude.{ℕ, ◌+◌, ◌/◌, ◌%◌, ◌^◌, List, [], ◌∷◌, if◌then◌else◌}
+use Rattle.line_reader.specs.Endings.{Ending, Heard}
+use Rattle.std.specs.Prelude.{ℕ, ◌+◌, ◌/◌, ◌%◌, ◌^◌, List, [], ◌∷◌, if◌then◌else◌, Some, None, Ok, Err}
 use Rattle.answers.specs.Choices.{◌=?◌}
 use Rattle.page_check_bits.specs.CheckBits.{agrees}
 use Rattle.line_mode.specs.declared.modes.LineMode.{LineMode}
 use Rattle.line_mode.specs.declared.modes.Judgement.{Judgement}
 use Rattle.line_mode.specs.declared.modes.Judgement.TheVariants.{Positions, Quiet, Unfit}
-use Rattle.line_reader.specs.declared.endings.Ending.{Ending}
-use Rattle.line_reader.specs.declared.endings.Ending.TheVariants.{Good, Gap, Cut, Check}
-use Rattle.line_reader.specs.declared.endings.Heard.{Heard}
-use Rattle.line_reader.specs.declared.endings.Heard.TheVariants.{Nothing, Ended}
+use Rattle.line_reader.specs.declared.endings.Broken.TheVariants.{Gap, Cut, Check}
 use Rattle.line_reader.specs.declared.reader.Reader.{Reader}
 use Rattle.line_reader.specs.declared.reader.Reader.TheVariants.{Fresh, Open, Dropping}
 use Rattle.line_reader.specs.declared.reader.Step.{Step}
@@ -32,31 +30,31 @@ with_bit at k bits = if is_clock at then bits / 2 + (if k =? 1 then 2 ^ 63 else 
 
 -- "good if the check bits agree, else Check"
 abbrev pub page_end : (bits : ℕ) → Ending
-page_end bits = if agrees bits then Good (bits % 2 ^ 48) else Check
+page_end bits = if agrees bits then Ok (bits % 2 ^ 48) else (Err Check)
 
 -- A gap that the pattern asked for: the edge stands at its position. "The edge at 157 ends it".
 unfoldable pub arrives : (at bits reading : ℕ) → Step
 arrives at bits reading =
-    if at =? 157 then step (Ended (page_end bits)) (Dropping reading)
-    else step Nothing (Open at reading bits)
+    if at =? 157 then step (Some (page_end bits)) (Dropping reading)
+    else step None (Open at reading bits)
 
 -- A further edge, by its gap. "A quiet gap in an attempt ends it (Cut), and that edge opens the next. Any other wrong gap ends it (Gap)."
 unfoldable pub goes_on : (mode : LineMode) (at bits reading : ℕ) → Judgement → Step
-goes_on mode at bits reading Quiet = step (Ended Cut) (opening reading)
-goes_on mode at bits reading Unfit = step (Ended Gap) (Dropping reading)
+goes_on mode at bits reading Quiet = step (Some (Err Cut)) (opening reading)
+goes_on mode at bits reading Unfit = step (Some (Err Gap)) (Dropping reading)
 goes_on mode at bits reading (Positions k) =
     if asks mode at k then arrives (at + k) (with_bit at k bits) reading
-    else step (Ended Gap) (Dropping reading)
+    else step (Some (Err Gap)) (Dropping reading)
 
 -- "After Gap, Check or a good page, edges are dropped without an answer until one follows a quiet gap; it opens an attempt."
 unfoldable pub drops_on : (reading : ℕ) → Judgement → Step
-drops_on reading Quiet = step Nothing (opening reading)
-drops_on reading Unfit = step Nothing (Dropping reading)
-drops_on reading (Positions k) = step Nothing (Dropping reading)
+drops_on reading Quiet = step None (opening reading)
+drops_on reading Unfit = step None (Dropping reading)
+drops_on reading (Positions k) = step None (Dropping reading)
 
 -- What an edge brings to a reader. "A fresh reader takes the next edge as position 1 and opens an attempt."
 unfoldable pub edge_of : (mode : LineMode) (reader : Reader) (reading : ℕ) → Step
-edge_of mode Fresh reading = step Nothing (opening reading)
+edge_of mode Fresh reading = step None (opening reading)
 edge_of mode (Open at last bits) reading = goes_on mode at bits reading (judgement_of mode (time_between reading last))
 edge_of mode (Dropping last) reading = drops_on reading (judgement_of mode (time_between reading last))
 

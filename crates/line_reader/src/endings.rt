@@ -1,48 +1,53 @@
 // How an attempt ends, and what an edge says.
 ghost use Rattle.std.specs.Prelude.{◌≡◌};
 ghost use Rattle.answers.specs.Answers.{said};
-ghost use Rattle.line_reader.specs.Endings.{said_of_ending, said_of_heard};
+ghost use Rattle.line_reader.specs.Endings.{refusal_of, said_of_ending, said_of_heard};
 
 use answers::{Answer, Refusal};
 
-// How an attempt ends: with a good page's word, or by a wrong gap, by quiet, or with check bits that do not agree.
+// What breaks an attempt: a wrong gap, quiet, or check bits that do not agree.
 #[derive(Clone, Copy)]
-pub enum Ending {
-    Good(u64),
+pub enum Broken {
     Gap,
     Cut,
     Check,
 }
 
-// What an edge says: nothing, or how the attempt ended.
-#[derive(Clone, Copy)]
-pub enum Heard {
-    Nothing,
-    Ended(Ending),
-}
+// How an attempt ends: with a good page's word, or broken.
+pub type Ending = Result<u64, Broken>;
 
-impl Ending {
-    // The ending as an answer.
-    pub fn answer(self) -> Answer
-        ensures { said result ≡ said_of_ending self }
+// What an edge says: nothing, or how the attempt ended.
+pub type Heard = Option<Ending>;
+
+impl From<Broken> for Refusal {
+    // The refusal that tells what broke an attempt.
+    fn from(broken: Broken) -> Refusal
+        ensures { result ≡ refusal_of broken }
     {
-        match self {
-            Ending::Good(word) => Answer::Page(word),
-            Ending::Gap => Answer::Refused(Refusal::Gap),
-            Ending::Cut => Answer::Refused(Refusal::Cut),
-            Ending::Check => Answer::Refused(Refusal::Check),
+        match broken {
+            Broken::Gap => Refusal::Gap,
+            Broken::Cut => Refusal::Cut,
+            Broken::Check => Refusal::Check,
         }
     }
 }
 
-impl Heard {
-    // What is heard, as an answer.
-    pub fn answer(self) -> Answer
-        ensures { said result ≡ said_of_heard self }
-    {
-        match self {
-            Heard::Nothing => Answer::Nothing,
-            Heard::Ended(ending) => ending.answer(),
-        }
+// The ending as an answer: no `From`, since neither `Result` nor `Answer` is this crate's.
+pub fn answer_to_ending(ending: Ending) -> Answer
+    ensures { said result ≡ said_of_ending ending }
+{
+    match ending {
+        Ok(word) => Answer::Page(word),
+        Err(broken) => Answer::Refused(Refusal::from(broken)),
+    }
+}
+
+// What is heard, as an answer.
+pub fn answer_to_heard(heard: Heard) -> Answer
+    ensures { said result ≡ said_of_heard heard }
+{
+    match heard {
+        None => Answer::Nothing,
+        Some(ending) => answer_to_ending(ending),
     }
 }

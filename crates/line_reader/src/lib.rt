@@ -5,5 +5,5 @@ mod endings;
 mod pattern;
 mod reader;
 
-pub use endings::{Ending, Heard};
+pub use endings::{Broken, Ending, Heard, answer_to_ending, answer_to_heard};
 pub use reader::{Reader, Step, drop_on, go_on, open_on};

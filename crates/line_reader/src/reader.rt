@@ -2,11 +2,10 @@
 ghost use Rattle.std.specs.Prelude.{◌≡◌, ◌+◌, ◌/◌, ◌^◌, ◌≤◌, if◌then◌else◌};
 ghost use Rattle.answers.specs.Choices.{◌=?◌};
 ghost use Rattle.line_mode.specs.declared.modes.Judgement.TheVariants.{Positions};
-ghost use Rattle.line_reader.specs.declared.endings.Heard.TheVariants.{Nothing, Ended};
 ghost use Rattle.line_reader.specs.declared.reader.Reader.TheVariants.{Open, Dropping};
 ghost use Rattle.line_reader.specs.Reading.{step, opening, page_end, goes_on, edge_of};
 
-use crate::endings::{Ending, Heard};
+use crate::endings::{Broken, Heard};
 use crate::pattern::spans;
 use line_mode::{Judgement, LineMode, time_between};
 
@@ -52,10 +51,10 @@ fn dropped(heard: Heard, reading: u32) -> Step
 
 // The attempt goes on from a position.
 fn moved(at: u32, bits: u64, reading: u32) -> Step
-    ensures { result ≡ step Nothing (Open at reading bits) }
+    ensures { result ≡ step None (Open at reading bits) }
 {
     Step {
-        heard: Heard::Nothing,
+        heard: None,
         reader: Reader::Open {
             at: at,
             last: reading,
@@ -66,12 +65,12 @@ fn moved(at: u32, bits: u64, reading: u32) -> Step
 
 // The edge at 157.
 fn whole(bits: u64, reading: u32) -> Step
-    ensures { result ≡ step (Ended (page_end bits)) (Dropping reading) }
+    ensures { result ≡ step (Some (page_end bits)) (Dropping reading) }
 {
     if page_check_bits::bits_agree(bits) {
-        return dropped(Heard::Ended(Ending::Good(bits % page_word::WIDE)), reading);
+        return dropped(Some(Ok(bits % page_word::WIDE)), reading);
     }
-    dropped(Heard::Ended(Ending::Check), reading)
+    dropped(Some(Err(Broken::Check)), reading)
 }
 
 // The bits with one more, after a clock. The newest bit is the highest, so after 64 the first is the lowest.
@@ -93,27 +92,27 @@ fn step_on(mode: LineMode, at: u32, k: u32, bits: u64, reading: u32) -> Step
         if spans(line_page::start(mode), at, k) {
             return moved(at + k, bits, reading);
         }
-        return dropped(Heard::Ended(Ending::Gap), reading);
+        return dropped(Some(Err(Broken::Gap)), reading);
     }
     if at <= 154 {
         if at % 2 == 0 {
             if k == 1 {
                 return moved(at + 1, bits, reading);
             }
-            return dropped(Heard::Ended(Ending::Gap), reading);
+            return dropped(Some(Err(Broken::Gap)), reading);
         }
         if k <= 2 {
             return moved(at + k, with_bit(k, bits), reading);
         }
-        return dropped(Heard::Ended(Ending::Gap), reading);
+        return dropped(Some(Err(Broken::Gap)), reading);
     }
     if at == 155 {
         if k == 2 {
             return whole(bits, reading);
         }
-        return dropped(Heard::Ended(Ending::Gap), reading);
+        return dropped(Some(Err(Broken::Gap)), reading);
     }
-    dropped(Heard::Ended(Ending::Gap), reading)
+    dropped(Some(Err(Broken::Gap)), reading)
 }
 
 // A further edge of an attempt. Captures and devices share this body: small as it is, the compiler lays it into both their loops.
@@ -123,16 +122,16 @@ pub fn go_on(mode: LineMode, at: u32, last: u32, bits: u64, reading: u32) -> Ste
 {
     match mode.judgement(time_between(reading, last)) {
         Judgement::Positions(k) => step_on(mode, at, k, bits, reading),
-        Judgement::Quiet => opened(Heard::Ended(Ending::Cut), reading),
-        Judgement::Unfit => dropped(Heard::Ended(Ending::Gap), reading),
+        Judgement::Quiet => opened(Some(Err(Broken::Cut)), reading),
+        Judgement::Unfit => dropped(Some(Err(Broken::Gap)), reading),
     }
 }
 
 // The first edge of a fresh reader.
 pub fn open_on(reading: u32) -> Step
-    ensures { result ≡ step Nothing (opening reading) }
+    ensures { result ≡ step None (opening reading) }
 {
-    opened(Heard::Nothing, reading)
+    opened(None, reading)
 }
 
 // An edge after an attempt has ended.
@@ -141,9 +140,9 @@ pub fn drop_on(mode: LineMode, last: u32, reading: u32) -> Step
     ensures { result ≡ edge_of mode (Dropping last) reading }
 {
     match mode.judgement(time_between(reading, last)) {
-        Judgement::Positions(k) => dropped(Heard::Nothing, reading),
-        Judgement::Quiet => opened(Heard::Nothing, reading),
-        Judgement::Unfit => dropped(Heard::Nothing, reading),
+        Judgement::Positions(k) => dropped(None, reading),
+        Judgement::Quiet => opened(None, reading),
+        Judgement::Unfit => dropped(None, reading),
     }
 }
 

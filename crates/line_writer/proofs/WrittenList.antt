@@ -40,7 +40,7 @@ module _ (m : LineMode) (list : List ℕ) (place w first : ℕ) where
           left = rw (lt-leb (2 ^ 48) w fits, lt-ltb (length list) (place + edge_count m w) h);
         }
 
-    -- A page has edge_count, so a place past the end has no room.
+    -- A page has edges, so at a place past the end there is no room for them.
     pub has_edges : 0 < edge_count m w
     unfolding edge_count
     has_edges = let e = edge_count_law m w fits in let l = least m.slow in omega arith
@@ -49,14 +49,11 @@ module _ (m : LineMode) (list : List ℕ) (place w first : ℕ) where
         least true = omega arith
         least false = omega arith
 
-    pub past : length list < place → Outcome (refused Room) list
-    past h = let e = has_edges in short (omega arith)
-
     -- The number of transitions, as the code has found it.
     module _ (count : ℕ) (counted : count ≡ length (transitions m w)) where
-      pub too_few : length list - place < count → Outcome (refused Room) list
+      pub no_room : length list < place + count → Outcome (refused Room) list
       unfolding edge_count
-      too_few h = short (subst (λ (n : ℕ). length list < place + n) counted (omega arith))
+      no_room h = short (subst (λ (n : ℕ). length list < place + n) counted h)
 
       module _ (room : count ≤ length list - place) where
         -- The part of the list that is lent is its tail, and has room for the page.

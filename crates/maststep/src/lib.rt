@@ -17,7 +17,7 @@ ghost use Rattle.port_lent.specs.Lent.{step_on_record};
 ghost use Rattle.maststep.specs.NextPlace.{next_left};
 
 use answers::Answer;
-use line_captures::ReadOutcome;
+use line_captures::{ReadOutcome, answer_to_read};
 use port_state::PlainRecord;
 
 // The check bits of a word, or 13.
@@ -42,7 +42,7 @@ pub extern "C" fn maststep_resolve(own: u64, partner: u64) -> u64
 pub extern "C" fn maststep_judge(mode: u32, gap: u32) -> u64
     ensures { result ≡ packed (judged mode gap) }
 {
-    line_mode::judge(mode, gap).packed()
+    line_mode::answer_to_judging(line_mode::judge(mode, gap)).packed()
 }
 
 // Writes a page's readings into the list from a place on: their number, or 14, 13, 12.
@@ -57,7 +57,7 @@ pub extern "C" fn maststep_write(
     ensures says { result ≡ packed (write_of mode list.old place word first).says }
     ensures leaves { list.new ≡ (write_of mode list.old place word first).list }
 {
-    line_writer::write(list, place, mode, word, first).packed()
+    Answer::from(line_writer::write(list, place, mode, word, first)).packed()
 }
 
 // What is left where the caller keeps the next place.
@@ -65,10 +65,9 @@ fn next_left(outcome: ReadOutcome, place: usize, old: usize) -> usize
     ensures { result ≡ next_left outcome place old }
 {
     match outcome {
-        ReadOutcome::UnknownMode => old,
-        ReadOutcome::PastTheEnd => old,
-        ReadOutcome::AtTheEnd => place,
-        ReadOutcome::Attempt { ending, next } => next,
+        Err(refusal) => old,
+        Ok(None) => place,
+        Ok(Some(attempt)) => attempt.next,
     }
 }
 
@@ -80,7 +79,7 @@ pub extern "C" fn maststep_read(list: &[u32], place: usize, mode: u32, next: &mu
 {
     let outcome = line_captures::read(list, place, mode);
     *next = next_left(outcome, place, *next);
-    outcome.answer().packed()
+    answer_to_read(outcome).packed()
 }
 
 // Makes a record that of a fresh device, whatever it held.

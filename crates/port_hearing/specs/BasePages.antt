@@ -1,11 +1,10 @@
 -- 01, "The negotiation (LSM)": what a good page does in Ability and in Ack; by 01's amendments, at round base: "At round base, Ability and Ack are as in 01."
-use Rattle.std.specs.Prelude.{ℕ, Bool, true, not, ◌||◌, if◌then◌else◌}
+use Rattle.std.specs.Prelude.{ℕ, Bool, true, not, ◌||◌, if◌then◌else◌, Ok}
 use Rattle.answers.specs.declared.Refusal.TheVariants as refusal
 use Rattle.answers.specs.Choices.{◌=?◌}
 use Rattle.answers.specs.Answers.{refused}
 use Rattle.page_word.specs.Fields.{field_of, with_field, has_other_selector, is_tie}
 use Rattle.page_word.specs.declared.fields.Field.TheVariants as field
-use Rattle.line_reader.specs.declared.endings.Ending.TheVariants.{Good}
 use Rattle.line_reader.specs.Endings.{said_of_ending}
 use Rattle.port_state.specs.declared.State.TheVariants.{Ack, Complete}
 use Rattle.port_state.specs.declared.Device.{Device}
@@ -14,7 +13,7 @@ use Rattle.port_state.specs.Changes.{with_state, with_partner, with_flags, with_
 
 -- "A good page not refused answers itself". 01's amendments, request 7: "at any round a good page that is not refused sets the reading of the last good page to that of its last edge."
 abbrev pub takes : (word reading : ℕ) → Device → Due
-takes word reading d = due (said_of_ending (Good word)) (with_good reading d)
+takes word reading d = due (said_of_ending (Ok word)) (with_good reading d)
 
 -- "hold it, mark "heard" at its last edge, to Ack"
 abbrev pub holds : (word reading : ℕ) → Device → Device

@@ -1,12 +1,9 @@
 -- 01, "The negotiation (LSM)", and its amendments: the edge event, and what a good page does in each state and round.
-use Rattle.std.specs.Prelude.{ℕ, Bool, not, ◌&&◌, if◌then◌else◌}
+use Rattle.std.specs.Prelude.{ℕ, Bool, not, ◌&&◌, if◌then◌else◌, Some, None, Ok, Err}
 use Rattle.answers.specs.Answers.{nothing}
 use Rattle.line_mode.specs.declared.modes.LineMode.{LineMode}
-use Rattle.line_reader.specs.declared.endings.Ending.TheVariants.{Good, Gap, Cut, Check}
-use Rattle.line_reader.specs.declared.endings.Heard.{Heard}
-use Rattle.line_reader.specs.declared.endings.Heard.TheVariants.{Nothing, Ended}
 use Rattle.line_reader.specs.declared.reader.Step.{Step}
-use Rattle.line_reader.specs.Endings.{said_of_ending}
+use Rattle.line_reader.specs.Endings.{said_of_ending, Heard}
 use Rattle.line_reader.specs.Reading.{edge_of}
 use Rattle.port_state.specs.declared.State.{State}
 use Rattle.port_state.specs.declared.State.TheVariants.{Off, Break, Ability, Ack, Complete, CheckLink, Up}
@@ -38,11 +35,9 @@ page_in Up word reading d = due nothing d
 
 -- What was heard: of a good page the state decides; Gap, Cut and Check are answered.
 unfoldable pub hears : Heard → (reading : ℕ) → Device → Due
-hears Nothing reading d = due nothing d
-hears (Ended (Good word)) reading d = page_in d.state word reading d
-hears (Ended Gap) reading d = due (said_of_ending Gap) d
-hears (Ended Cut) reading d = due (said_of_ending Cut) d
-hears (Ended Check) reading d = due (said_of_ending Check) d
+hears None reading d = due nothing d
+hears (Some (Ok word)) reading d = page_in d.state word reading d
+hears (Some (Err broken)) reading d = due (said_of_ending (Err broken)) d
 
 -- The reader takes the edge; what is heard then acts on the device with that reader.
 abbrev pub listened : Step → (reading : ℕ) → Device → Due

@@ -10,7 +10,7 @@ use crate::heard_pages::take;
 use crate::next_pages::{next_page_in_ability, next_page_in_ack};
 use answers::{Answer, Refusal};
 use line_mode::LineMode;
-use line_reader::{Ending, Heard};
+use line_reader::Heard;
 use port_state::{Device, Reply, State, answered, is_base, with_mark, with_reader};
 
 // A good page in Ability, by round.
@@ -64,13 +64,9 @@ fn hear(device: Device, heard: Heard, reading: u32) -> Reply
     ensures { Meets result (hears heard reading device) }
 {
     match heard {
-        Heard::Nothing => answered(Answer::Nothing, device),
-        Heard::Ended(ending) => match ending {
-            Ending::Good(word) => page_in(device, word, reading),
-            Ending::Gap => answered(Answer::Refused(Refusal::Gap), device),
-            Ending::Cut => answered(Answer::Refused(Refusal::Cut), device),
-            Ending::Check => answered(Answer::Refused(Refusal::Check), device),
-        },
+        None => answered(Answer::Nothing, device),
+        Some(Ok(word)) => page_in(device, word, reading),
+        Some(Err(broken)) => answered(Answer::Refused(Refusal::from(broken)), device),
     }
 }
 

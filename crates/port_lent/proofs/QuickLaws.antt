@@ -1,5 +1,5 @@
 -- What is told quickly is what is due: of an edge, of a tick, of a read.
-use Rattle.std.specs.Prelude.{if◌then◌else◌, Some}
+use Rattle.std.specs.Prelude.{if◌then◌else◌, Some, None, Ok, Err}
 use Prim.Native.Nat.{ℕ, ◌%◌, ◌^◌}
 use mathlib.Core.Path.{◌≡◌, refl, sym, ap, ap₂, ◌∙◌, subst}
 use mathlib.Core.Bool.{Bool, true, false, not, ◌&&◌, ◌||◌, and_comm, true≢false}
@@ -10,12 +10,10 @@ use Rattle.page_word.specs.declared.thirds.Third.{Third}
 use Rattle.page_word.specs.Thirds.{third_of}
 use Rattle.line_mode.specs.declared.modes.LineMode.{LineMode}
 use Rattle.line_mode.specs.Modes.{lsm_mode}
-use Rattle.line_reader.specs.declared.endings.Ending.TheVariants.{Good, Gap, Cut, Check}
-use Rattle.line_reader.specs.declared.endings.Heard.{Heard}
-use Rattle.line_reader.specs.declared.endings.Heard.TheVariants.{Nothing, Ended}
+use Rattle.line_reader.specs.declared.endings.Broken.TheVariants.{Gap, Cut, Check}
 use Rattle.line_reader.specs.declared.reader.Reader.{Reader}
 use Rattle.line_reader.specs.declared.reader.Step.{Step}
-use Rattle.line_reader.specs.Endings.{said_of_heard}
+use Rattle.line_reader.specs.Endings.{said_of_heard, Heard}
 use Rattle.line_reader.specs.Reading.{edge_of}
 use Rattle.port_state.specs.declared.State.{State}
 use Rattle.port_state.specs.declared.State.TheVariants.{Off, Break, Ability, Ack, Complete, CheckLink, Up}
@@ -43,11 +41,11 @@ use Rattle.port_lent.specs.Quickly.{with_reader_numbers, Fits, is_good}
 -- Without a good page the answer says all that is heard, and nothing but the reader changes.
 no_page : (heard : Heard) → is_good heard ≡ false → (reading : ℕ) (d : Device) → hears heard reading d ≡ due (said_of_heard heard) d
 unfolding hears
-no_page Nothing none reading d = refl
-no_page (Ended (Good word)) none reading d = absurd (true≢false none)
-no_page (Ended Gap) none reading d = refl
-no_page (Ended Cut) none reading d = refl
-no_page (Ended Check) none reading d = refl
+no_page None none reading d = refl
+no_page (Some (Ok word)) none reading d = absurd (true≢false none)
+no_page (Some (Err Gap)) none reading d = refl
+no_page (Some (Err Cut)) none reading d = refl
+no_page (Some (Err Check)) none reading d = refl
 
 -- A record with the numbers of another reader means the device with that reader.
 other_reader : (reader : Reader) (plain : PlainRecord)

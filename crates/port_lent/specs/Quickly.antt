@@ -1,9 +1,7 @@
 -- What functions of this crate show to each other; no public contract cites it. Most edges change nothing but the reader's numbers, and many events nothing at all: these are told quickly,
 -- without making a device of the record. And the three numbers of an event in a row of cells.
-use Rattle.std.specs.Prelude.{ℕ, ◌+◌, Bool, true, false, List, get_or}
-use Rattle.line_reader.specs.declared.endings.Ending.TheVariants.{Good, Gap, Cut, Check}
-use Rattle.line_reader.specs.declared.endings.Heard.{Heard}
-use Rattle.line_reader.specs.declared.endings.Heard.TheVariants.{Nothing, Ended}
+use Rattle.line_reader.specs.Endings.{Heard}
+use Rattle.std.specs.Prelude.{ℕ, ◌+◌, Bool, true, false, List, get_or, Some, None, Ok, Err}
 use Rattle.port_state.specs.declared.plain_record.PlainRecord.{PlainRecord}
 use Rattle.port_state.specs.Memory.{Due}
 use Rattle.port_lent.specs.declared.quick.Quick.{Quick}
@@ -57,11 +55,9 @@ pub record Fits (quick : Quick) (plain : PlainRecord) (d : Due) : Type 0 where
 
 -- Whether an edge ends a good page, so that more than the reader may change.
 abbrev pub is_good : Heard → Bool
-is_good Nothing = false
-is_good (Ended (Good word)) = true
-is_good (Ended Gap) = false
-is_good (Ended Cut) = false
-is_good (Ended Check) = false
+is_good None = false
+is_good (Some (Ok word)) = true
+is_good (Some (Err broken)) = false
 
 -- The three numbers of the event that starts at a place in a row of cells; a cell past the end counts as 0.
 abbrev pub numbers_at : (cells : List ℕ) (place : ℕ) → EventNumbers

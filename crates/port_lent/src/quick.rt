@@ -15,7 +15,7 @@ ghost use Rattle.port_lent.specs.Quickly.{Fits, is_good};
 
 use answers::Answer;
 use line_mode::LineMode;
-use line_reader::{Ending, Heard, Reader, Step, drop_on, go_on, open_on};
+use line_reader::{Heard, Reader, Step, answer_to_heard, drop_on, go_on, open_on};
 use page_word::{Third, third_of};
 use port_hearing::takes_edges;
 use port_state::{Outcome, PlainRecord, ReaderNumbers, Round, State, is_base, is_set};
@@ -39,15 +39,7 @@ pub enum Quick {
 fn is_good(heard: Heard) -> bool
     ensures { result ≡ is_good heard }
 {
-    match heard {
-        Heard::Nothing => false,
-        Heard::Ended(ending) => match ending {
-            Ending::Good(word) => true,
-            Ending::Gap => false,
-            Ending::Cut => false,
-            Ending::Check => false,
-        },
-    }
+    matches!(heard, Some(Ok(_)))
 }
 
 // What the reader's step brings, if it has read no good page.
@@ -61,7 +53,7 @@ fn moved(step: Step) -> Quick
     }
     let numbers = ReaderNumbers::from(reader);
     Quick::Moved {
-        answer: heard.answer().packed(),
+        answer: answer_to_heard(heard).packed(),
         bits: numbers.bits,
         last: numbers.last,
         position: numbers.position,

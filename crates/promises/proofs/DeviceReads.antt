@@ -1,4 +1,6 @@
 -- Demand 2 at a device: its reader is what the edges taken have made of a fresh one, so a page is heard just where the edge reader hears one.
+use Rattle.line_reader.specs.Endings.{Heard}
+use Rattle.std.specs.Prelude.{Some, None, Ok, Err}
 use Prim.Native.Nat.{ℕ, ◌^◌, ◌<◌}
 use mathlib.Core.Path.{◌≡◌, refl, sym, ap, ap₂, ◌∙◌, subst}
 use mathlib.Core.Bool.{Bool, true, false, cond, not, ◌&&◌, ◌||◌, false≢true}
@@ -13,9 +15,7 @@ use Rattle.page_word.specs.Fields.{field_of, has_other_selector, is_tie}
 use Rattle.page_word.specs.declared.fields.Field.TheVariants as field
 use Rattle.line_mode.specs.Modes.{lsm_mode}
 use Rattle.line_mode.proofs.Windows.{lsm_apart}
-use Rattle.line_reader.specs.declared.endings.Ending.TheVariants.{Good, Gap, Cut, Check}
-use Rattle.line_reader.specs.declared.endings.Heard.{Heard}
-use Rattle.line_reader.specs.declared.endings.Heard.TheVariants.{Nothing, Ended}
+use Rattle.line_reader.specs.declared.endings.Broken.TheVariants.{Gap, Cut, Check}
 use Rattle.line_reader.specs.declared.reader.Reader.{Reader}
 use Rattle.line_reader.specs.declared.reader.Reader.TheVariants.{Fresh}
 use Rattle.line_reader.specs.declared.reader.Step.{Step}
@@ -123,25 +123,25 @@ module _ (d : Device) (x : ℕ) (takes : takes_edges d ≡ true) where
   brings_heard : (h : Heard) → heard_at d x ≡ h → step_due (Edge x) d ≡ hears h x next
   brings_heard h e = brings ∙ ap (λ (z : Heard). hears z x next) e
 
-  says_page : (w : ℕ) → heard_at d x ≡ Ended (Good w) → (step_due (Edge x) d).says ≡ page_says w d
+  says_page : (w : ℕ) → heard_at d x ≡ Some (Ok w) → (step_due (Edge x) d).says ≡ page_says w d
   unfolding hears
   says_page w e =
-      ap (λ (z : Due). z.says) (brings_heard (Ended (Good w)) e) ∙ (page_says_law d.state w x (edge_of lsm_mode d.link.reader x).reader d).same
+      ap (λ (z : Due). z.says) (brings_heard (Some (Ok w)) e) ∙ (page_says_law d.state w x (edge_of lsm_mode d.link.reader x).reader d).same
 
 -- What is heard and is no page leaves the device as it is.
-silent_heard : (x : ℕ) (d : Device) → hears Nothing x d ≡ due nothing d
+silent_heard : (x : ℕ) (d : Device) → hears None x d ≡ due nothing d
 unfolding hears
 silent_heard x d = refl
 
-gap_heard : (x : ℕ) (d : Device) → hears (Ended Gap) x d ≡ due (refused refusal.Gap) d
+gap_heard : (x : ℕ) (d : Device) → hears (Some (Err Gap)) x d ≡ due (refused refusal.Gap) d
 unfolding hears
 gap_heard x d = refl
 
-cut_heard : (x : ℕ) (d : Device) → hears (Ended Cut) x d ≡ due (refused refusal.Cut) d
+cut_heard : (x : ℕ) (d : Device) → hears (Some (Err Cut)) x d ≡ due (refused refusal.Cut) d
 unfolding hears
 cut_heard x d = refl
 
-check_heard : (x : ℕ) (d : Device) → hears (Ended Check) x d ≡ due (refused refusal.Check) d
+check_heard : (x : ℕ) (d : Device) → hears (Some (Err Check)) x d ≡ due (refused refusal.Check) d
 unfolding hears
 check_heard x d = refl
 
@@ -178,7 +178,7 @@ refused_among k h = by (eqb k 4) (eqb k 5) (eqb k 6) (eqb k 7) (eqb k 17) (eqb k
 pub record HearsPage (d : Device) (x : ℕ) : Type 0 where
   pub is_taken : takes_edges d ≡ true
   pub word : ℕ
-  pub heard : heard_at d x ≡ Ended (Good word)
+  pub heard : heard_at d x ≡ Some (Ok word)
 
 not_taken : (d : Device) (x : ℕ) → takes_edges d ≡ false → step_due (Edge x) d ≡ due nothing d
 unfolding step_over edge_due
@@ -197,11 +197,11 @@ hears_page d x h = by (takes_edges d) refl
     no_kind s e other = absurd (false≢true (sym other ∙ sym (ap (λ (z : Said). among z.kind page_kinds) e) ∙ h))
 
     at : (takes : takes_edges d ≡ true) (heard : Heard) → heard_at d x ≡ heard → HearsPage d x
-    at takes Nothing e = no_kind nothing (ap (λ (z : Due). z.says) (brings_heard d x takes Nothing e ∙ silent_heard x (next d x takes))) refl
-    at takes (Ended (Good word)) e = record { is_taken = takes; word = word; heard = e }
-    at takes (Ended Gap) e = no_kind (refused refusal.Gap) (ap (λ (z : Due). z.says) (brings_heard d x takes (Ended Gap) e ∙ gap_heard x (next d x takes))) refl
-    at takes (Ended Cut) e = no_kind (refused refusal.Cut) (ap (λ (z : Due). z.says) (brings_heard d x takes (Ended Cut) e ∙ cut_heard x (next d x takes))) refl
-    at takes (Ended Check) e = no_kind (refused refusal.Check) (ap (λ (z : Due). z.says) (brings_heard d x takes (Ended Check) e ∙ check_heard x (next d x takes))) refl
+    at takes None e = no_kind nothing (ap (λ (z : Due). z.says) (brings_heard d x takes None e ∙ silent_heard x (next d x takes))) refl
+    at takes (Some (Ok word)) e = record { is_taken = takes; word = word; heard = e }
+    at takes (Some (Err Gap)) e = no_kind (refused refusal.Gap) (ap (λ (z : Due). z.says) (brings_heard d x takes (Some (Err Gap)) e ∙ gap_heard x (next d x takes))) refl
+    at takes (Some (Err Cut)) e = no_kind (refused refusal.Cut) (ap (λ (z : Due). z.says) (brings_heard d x takes (Some (Err Cut)) e ∙ cut_heard x (next d x takes))) refl
+    at takes (Some (Err Check)) e = no_kind (refused refusal.Check) (ap (λ (z : Due). z.says) (brings_heard d x takes (Some (Err Check)) e ∙ check_heard x (next d x takes))) refl
 
     by : (t : Bool) → takes_edges d ≡ t → HearsPage d x
     by true takes = at takes (heard_at d x) refl
@@ -299,16 +299,16 @@ module _ (past : List Event) (x : ℕ) (takes : takes_edges (after past) ≡ tru
   opens : opens_after lsm_mode (taken past) x ≡ true → GoesOn past x (cut_or_nothing past)
   opens h = by (is_open (reader_of past)) (heard_taken _ (ap (λ (s : Step). s.heard) (opening_edge lsm_mode lsm_apart (taken past) x h)))
     where
-      by : (attempt : Bool) → heard_at (after past) x ≡ cond attempt (Ended Cut) Nothing → GoesOn past x (cond attempt (refused refusal.Cut) nothing)
-      by true e = goes_on_with (refused refusal.Cut) (only_reader (Ended Cut) (refused refusal.Cut) e (cut_heard x))
-      by false e = goes_on_with nothing (only_reader Nothing nothing e (silent_heard x))
+      by : (attempt : Bool) → heard_at (after past) x ≡ cond attempt (Some (Err Cut)) None → GoesOn past x (cond attempt (refused refusal.Cut) nothing)
+      by true e = goes_on_with (refused refusal.Cut) (only_reader (Some (Err Cut)) (refused refusal.Cut) e (cut_heard x))
+      by false e = goes_on_with nothing (only_reader None nothing e (silent_heard x))
 
   opened_device : opens_after lsm_mode (taken past) x ≡ true → (step_due (Edge x) (after past)).device ≡ next (after past) x takes
   opened_device h = by (is_open (reader_of past)) (heard_taken _ (ap (λ (s : Step). s.heard) (opening_edge lsm_mode lsm_apart (taken past) x h)))
     where
-      by : (attempt : Bool) → heard_at (after past) x ≡ cond attempt (Ended Cut) Nothing → (step_due (Edge x) (after past)).device ≡ next (after past) x takes
-      by true e = ap (λ (z : Due). z.device) (only_reader (Ended Cut) (refused refusal.Cut) e (cut_heard x))
-      by false e = ap (λ (z : Due). z.device) (only_reader Nothing nothing e (silent_heard x))
+      by : (attempt : Bool) → heard_at (after past) x ≡ cond attempt (Some (Err Cut)) None → (step_due (Edge x) (after past)).device ≡ next (after past) x takes
+      by true e = ap (λ (z : Due). z.device) (only_reader (Some (Err Cut)) (refused refusal.Cut) e (cut_heard x))
+      by false e = ap (λ (z : Due). z.device) (only_reader None nothing e (silent_heard x))
 
 module _ (past : List Event) (x w : ℕ) where
   heard_under_way : (rest : List ℕ) (u : UnderWay past w rest) (h : Heard)
@@ -318,12 +318,12 @@ module _ (past : List Event) (x w : ℕ) where
   ends : UnderWay past w (x ∷ []) → (step_due (Edge x) (after past)).says ≡ page_says w (after past)
   ends u =
       says_page (after past) x u.takes w
-      (heard_under_way (x ∷ []) u (Ended (Good w)) (last_edge lsm_mode lsm_apart w u.word u.before u.first u.later u.opened x u.carried))
+      (heard_under_way (x ∷ []) u (Some (Ok w)) (last_edge lsm_mode lsm_apart w u.word u.before u.first u.later u.opened x u.carried))
 
   inner : (y : ℕ) (rest : List ℕ) (u : UnderWay past w (x ∷ y ∷ rest)) → step_due (Edge x) (after past) ≡ due nothing (next (after past) x u.takes)
   inner y rest u =
-      only_reader past x u.takes Nothing nothing
-      (heard_under_way (x ∷ y ∷ rest) u Nothing (inner_edge lsm_mode lsm_apart w u.word u.before u.first u.later u.opened x y rest u.carried))
+      only_reader past x u.takes None nothing
+      (heard_under_way (x ∷ y ∷ rest) u None (inner_edge lsm_mode lsm_apart w u.word u.before u.first u.later u.opened x y rest u.carried))
       (silent_heard x)
 
   goes_on_law : (y : ℕ) (rest : List ℕ) → UnderWay past w (x ∷ y ∷ rest) → GoesOn past x nothing

@@ -1,6 +1,7 @@
 -- Every way into Break is one: whatever the device was, it is the entered device at the event's reading. An event that merely leaves a device in
 -- Break is none.
-use Rattle.std.specs.Prelude.{Option, Some, None}
+use Rattle.line_reader.specs.Endings.{Heard}
+use Rattle.std.specs.Prelude.{Option, Some, None, Ok, Err}
 use Prim.Native.Nat.{ℕ, ◌+◌}
 use mathlib.Core.Path.{◌≡◌, refl, sym, ap, ◌∙◌, subst}
 use mathlib.Core.Bool.{Bool, true, false, cond, not, ◌&&◌, ◌||◌, false≢true}
@@ -9,9 +10,6 @@ use lib.Dec.{eqb, leb}
 use Rattle.answers.specs.Answers.{Said, nothing}
 use Rattle.page_word.specs.Fields.{field_of, has_other_selector, is_tie}
 use Rattle.page_word.specs.declared.fields.Field.TheVariants as field
-use Rattle.line_reader.specs.declared.endings.Ending.TheVariants.{Good, Gap, Cut, Check}
-use Rattle.line_reader.specs.declared.endings.Heard.{Heard}
-use Rattle.line_reader.specs.declared.endings.Heard.TheVariants.{Nothing, Ended}
 use Rattle.line_reader.specs.declared.reader.Reader.{Reader}
 use Rattle.line_reader.specs.Reading.{edge_of}
 use Rattle.port_state.specs.declared.State.{State}
@@ -90,11 +88,9 @@ module _ (reading : ℕ) where
 
   heard_entry : (h : Heard) (r : Reader) (d : Device) → Entry false reading d (hears h reading (with_reader r d))
   unfolding hears
-  heard_entry Nothing r d = stays refl
-  heard_entry (Ended (Good word)) r d = page_entry d.state word d r
-  heard_entry (Ended Gap) r d = stays refl
-  heard_entry (Ended Cut) r d = stays refl
-  heard_entry (Ended Check) r d = stays refl
+  heard_entry None r d = stays refl
+  heard_entry (Some (Ok word)) r d = page_entry d.state word d r
+  heard_entry (Some (Err broken)) r d = stays refl
 
   edge_entry : (mode : LineMode) (d : Device) → Entry false reading d (edge_due mode reading d)
   unfolding edge_due

@@ -1,6 +1,7 @@
 -- What an event does to the pages of a link: it leaves them, holds a base page or a Next Page, goes on to the next own page, or ends the talk. And to 517-519 and 523-525: it
 -- forgets them, leaves them, or loads one of them with the page that it answers, which has Ack 1.
-use Rattle.std.specs.Prelude.{Option, Some, None}
+use Rattle.line_reader.specs.Endings.{Heard}
+use Rattle.std.specs.Prelude.{Option, Some, None, Ok, Err}
 use Prim.Native.Nat.{ℕ, ◌+◌, ◌%◌, ◌^◌, ◌<◌}
 use mathlib.Core.Path.{◌≡◌, refl, sym, ap, ◌∙◌}
 use mathlib.Core.Bool.{Bool, true, false, cond, not, ◌&&◌, ◌||◌, false≢true}
@@ -15,9 +16,6 @@ use Rattle.page_word.specs.declared.fields.Field.TheVariants as field
 use Rattle.page_word.specs.NextPages.{sets_next_page, toggle_of, same_toggle, null_message, inverse_toggle, next_after}
 use Rattle.page_word.proofs.FieldLaws.{got, part_below}
 use Rattle.line_mode.specs.declared.modes.LineMode.{LineMode}
-use Rattle.line_reader.specs.declared.endings.Ending.TheVariants.{Good, Gap, Cut, Check}
-use Rattle.line_reader.specs.declared.endings.Heard.{Heard}
-use Rattle.line_reader.specs.declared.endings.Heard.TheVariants.{Nothing, Ended}
 use Rattle.line_reader.specs.declared.reader.Reader.{Reader}
 use Rattle.line_reader.specs.Reading.{edge_of}
 use Rattle.port_state.specs.declared.State.{State}
@@ -180,11 +178,9 @@ module _ (reading : ℕ) (r : Reader) where
 
   heard_turns : (h : Heard) (d : Device) → Turns d (hears h reading (with_reader r d))
   unfolding hears
-  heard_turns Nothing d = keeps (not_turning d.state) (λ h. h) refl refl (same_base refl refl) refl refl
-  heard_turns (Ended (Good word)) d = page_turns d.state word d
-  heard_turns (Ended Gap) d = keeps (not_turning d.state) (λ h. h) refl refl (same_base refl refl) refl refl
-  heard_turns (Ended Cut) d = keeps (not_turning d.state) (λ h. h) refl refl (same_base refl refl) refl refl
-  heard_turns (Ended Check) d = keeps (not_turning d.state) (λ h. h) refl refl (same_base refl refl) refl refl
+  heard_turns None d = keeps (not_turning d.state) (λ h. h) refl refl (same_base refl refl) refl refl
+  heard_turns (Some (Ok word)) d = page_turns d.state word d
+  heard_turns (Some (Err broken)) d = keeps (not_turning d.state) (λ h. h) refl refl (same_base refl refl) refl refl
 
 module _ (reading : ℕ) where
   edge_turns : (mode : LineMode) (d : Device) → Turns d (edge_due mode reading d)

@@ -1,6 +1,7 @@
 -- The reader of a device after any events: along each event it is made fresh, or has taken the edges that were taken. So in Ability, Ack and Complete it is what the
 -- edges taken since Break was left have made of a fresh one.
-use Rattle.std.specs.Prelude.{Option, Some, None}
+use Rattle.line_reader.specs.Endings.{Heard}
+use Rattle.std.specs.Prelude.{Option, Some, None, Ok, Err}
 use Prim.Native.Nat.{ℕ, zero, suc, ◌+◌}
 use mathlib.Core.Path.{◌≡◌, refl, sym, ap, ap₂, ◌∙◌}
 use mathlib.Core.Bool.{Bool, true, false, cond, not, ◌&&◌, ◌||◌, false≢true}
@@ -18,9 +19,7 @@ use Rattle.line_mode.specs.Clock.{time_between}
 use Rattle.line_mode.specs.Gaps.{judgement_of}
 use Rattle.line_mode.specs.Modes.{lsm_mode}
 use Rattle.line_page.specs.Pattern.{stands_at, has}
-use Rattle.line_reader.specs.declared.endings.Ending.TheVariants.{Good, Gap, Cut, Check}
-use Rattle.line_reader.specs.declared.endings.Heard.{Heard}
-use Rattle.line_reader.specs.declared.endings.Heard.TheVariants.{Nothing, Ended}
+use Rattle.line_reader.specs.declared.endings.Broken.TheVariants.{Gap}
 use Rattle.line_reader.specs.declared.reader.Reader.{Reader}
 use Rattle.line_reader.specs.declared.reader.Reader.TheVariants.{Fresh, Open, Dropping}
 use Rattle.line_reader.specs.declared.reader.Step.{Step}
@@ -102,11 +101,9 @@ module _ (reading : ℕ) (edges : List ℕ) (d : Device) (r : Reader) (same : r 
 
   heard_reads : (h : Heard) → Reads edges d (hears h reading (with_reader r d))
   unfolding hears
-  heard_reads Nothing = goes refl same
-  heard_reads (Ended (Good word)) = page_reads d.state word
-  heard_reads (Ended Gap) = goes refl same
-  heard_reads (Ended Cut) = goes refl same
-  heard_reads (Ended Check) = goes refl same
+  heard_reads None = goes refl same
+  heard_reads (Some (Ok word)) = page_reads d.state word
+  heard_reads (Some (Err broken)) = goes refl same
 
 edge_reads : (reading : ℕ) (d : Device) → Reads (taken_of (Edge reading) d) d (edge_due lsm_mode reading d)
 unfolding edge_due
@@ -251,7 +248,7 @@ arrives_stands : (at bits x : ℕ) → has (stands_at lsm_mode at) true ≡ true
 unfolding arrives
 arrives_stands at bits x h = by (eqb at 157) refl
   where
-    by : (t : Bool) → eqb at 157 ≡ t → stands_right (cond t (step (Ended (page_end bits)) (Dropping x)) (step Nothing (Open at x bits))).reader ≡ true
+    by : (t : Bool) → eqb at 157 ≡ t → stands_right (cond t (step (Some (page_end bits)) (Dropping x)) (step None (Open at x bits))).reader ≡ true
     by true e = refl
     by false e = ap₂ ◌&&◌ h (ap not e)
 
@@ -261,7 +258,7 @@ goes_stands at bits x Quiet = first_stands x 0
 goes_stands at bits x Unfit = refl
 goes_stands at bits x (Positions k) = by (asks lsm_mode at k) refl
   where
-    by : (t : Bool) → asks lsm_mode at k ≡ t → stands_right (cond t (arrives (at + k) (with_bit at k bits) x) (step (Ended Gap) (Dropping x))).reader ≡ true
+    by : (t : Bool) → asks lsm_mode at k ≡ t → stands_right (cond t (arrives (at + k) (with_bit at k bits) x) (step (Some (Err Gap)) (Dropping x))).reader ≡ true
     by true h = arrives_stands (at + k) (with_bit at k bits) x (asked_stands at k h)
     by false h = refl
 

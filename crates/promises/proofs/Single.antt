@@ -1,23 +1,21 @@
 -- No second answer fits: what is said tells the answer, so two that say the same are one.
-use Rattle.std.specs.Prelude.{Ok, Err}
+use Rattle.std.specs.Prelude.{ℕ, Some, None, Result, Ok, Err}
 use mathlib.Core.Path.{◌≡◌, refl, sym, ap, ap₂, ◌∙◌}
 use mathlib.Core.Bool.{true, cond}
 use lib.Dec.{eqb}
 use Rattle.answers.specs.declared.Answer.{Answer}
 use Rattle.answers.specs.declared.Answer.TheVariants as answer
+use Rattle.answers.specs.declared.Refusal.{Refusal}
 use Rattle.answers.specs.declared.Refusal.TheVariants.{Gap}
-use Rattle.answers.specs.Answers.{Said}
+use Rattle.answers.specs.Answers.{Said, said, said_count, ability_is_byte}
 use Rattle.answers.proofs.OneAnswer.{one_answer}
 use Rattle.page_resolve.specs.Resolving.{Resolution, rate_and_role, said_of}
-use Rattle.line_reader.specs.declared.endings.Ending.{Ending}
-use Rattle.line_reader.specs.declared.endings.Ending.TheVariants as ending
-use Rattle.line_reader.specs.declared.endings.Heard.{Heard}
-use Rattle.line_reader.specs.declared.endings.Heard.TheVariants.{Nothing, Ended}
+use Rattle.line_reader.specs.declared.endings.Broken.TheVariants as broken
 use Rattle.line_reader.specs.declared.reader.Reader.{Reader}
-use Rattle.line_reader.specs.Endings.{said_of_ending, said_of_heard}
+use Rattle.line_reader.specs.Endings.{said_of_ending, said_of_heard, Ending, Heard}
 use Rattle.line_mode.specs.declared.modes.Judgement.{Judgement}
 use Rattle.line_mode.specs.declared.modes.Judgement.TheVariants.{Positions, Quiet, Unfit}
-use Rattle.line_mode.specs.Gaps.{said_of_gap}
+use Rattle.line_mode.specs.Gaps.{said_of_gap, said_of_judging}
 use Rattle.port_state.specs.declared.Device.{Device}
 use Rattle.promises.specs.OneAnswer.{resolved_is_byte, Single, NoSecondAnswer}
 
@@ -30,26 +28,93 @@ told_by_law : {A : Type 0} (says : A → Said) (again : Said → A) → ((x : A)
 told_by_law says again finds first second e = sym (finds first) ∙ ap again e ∙ finds second
 
 abbrev ending_at : Said → Ending
-ending_at s = cond (eqb s.kind 0x80) (ending.Good s.value) (cond (eqb s.kind 1) ending.Gap (cond (eqb s.kind 2) ending.Cut ending.Check))
+ending_at s = cond (eqb s.kind 0x80) (Ok s.value) (cond (eqb s.kind 1) (Err broken.Gap) (cond (eqb s.kind 2) (Err broken.Cut) (Err broken.Check)))
 
 ending_again : (e : Ending) → ending_at (said_of_ending e) ≡ e
-ending_again (ending.Good word) = refl
-ending_again ending.Gap = refl
-ending_again ending.Cut = refl
-ending_again ending.Check = refl
+ending_again (Ok word) = refl
+ending_again (Err broken.Gap) = refl
+ending_again (Err broken.Cut) = refl
+ending_again (Err broken.Check) = refl
 
-heard_again : (h : Heard) → cond (eqb (said_of_heard h).kind 0) Nothing (Ended (ending_at (said_of_heard h))) ≡ h
-heard_again Nothing = refl
-heard_again (Ended (ending.Good word)) = refl
-heard_again (Ended ending.Gap) = refl
-heard_again (Ended ending.Cut) = refl
-heard_again (Ended ending.Check) = refl
+heard_again : (h : Heard) → cond (eqb (said_of_heard h).kind 0) None (Some (ending_at (said_of_heard h))) ≡ h
+heard_again None = refl
+heard_again (Some (Ok word)) = refl
+heard_again (Some (Err broken.Gap)) = refl
+heard_again (Some (Err broken.Cut)) = refl
+heard_again (Some (Err broken.Check)) = refl
 
 gap_again : (j : Judgement)
     → cond (eqb (said_of_gap j).kind 0x84) (Positions (said_of_gap j).value) (cond (eqb (said_of_gap j).kind 0x85) Quiet Unfit) ≡ j
 gap_again (Positions k) = refl
 gap_again Quiet = refl
 gap_again Unfit = refl
+
+-- What is said as an answer says it is told by that, if it can be found again in the answer.
+told_as_answer : {A : Type 0} (says : A → Said) (answers : A → Answer) (again : Answer → A)
+    → ((x : A) → ability_is_byte (answers x) ≡ true) → ((x : A) → said (answers x) ≡ says x) → ((x : A) → again (answers x) ≡ x)
+    → (first second : A) → says first ≡ says second → first ≡ second
+told_as_answer says answers again bytes same finds first second e =
+    sym (finds first) ∙ ap again (one_answer (answers first) (answers second) (bytes first) (bytes second) (same first ∙ e ∙ sym (same second))) ∙ finds second
+
+-- What judging came to, as an answer, and found again in one.
+abbrev judging_as : Result Judgement Refusal → Answer
+judging_as (Ok (Positions k)) = answer.Number k
+judging_as (Ok Quiet) = answer.Quiet
+judging_as (Ok Unfit) = answer.Unfit
+judging_as (Err refusal) = answer.Refused refusal
+
+abbrev judging_in : Answer → Result Judgement Refusal
+judging_in (answer.Number k) = Ok (Positions k)
+judging_in answer.Quiet = Ok Quiet
+judging_in answer.Unfit = Ok Unfit
+judging_in (answer.Refused refusal) = Err refusal
+judging_in _ = Err Gap
+
+judgings : (first second : Result Judgement Refusal) → said_of_judging first ≡ said_of_judging second → first ≡ second
+judgings = told_as_answer said_of_judging judging_as judging_in byte same again
+  where
+    byte : (x : Result Judgement Refusal) → ability_is_byte (judging_as x) ≡ true
+    byte (Ok (Positions k)) = refl
+    byte (Ok Quiet) = refl
+    byte (Ok Unfit) = refl
+    byte (Err refusal) = refl
+
+    same : (x : Result Judgement Refusal) → said (judging_as x) ≡ said_of_judging x
+    same (Ok (Positions k)) = refl
+    same (Ok Quiet) = refl
+    same (Ok Unfit) = refl
+    same (Err refusal) = refl
+
+    again : (x : Result Judgement Refusal) → judging_in (judging_as x) ≡ x
+    again (Ok (Positions k)) = refl
+    again (Ok Quiet) = refl
+    again (Ok Unfit) = refl
+    again (Err refusal) = refl
+
+-- What counting came to, so too.
+abbrev count_as : Result ℕ Refusal → Answer
+count_as (Ok n) = answer.Number n
+count_as (Err refusal) = answer.Refused refusal
+
+abbrev count_in : Answer → Result ℕ Refusal
+count_in (answer.Number n) = Ok n
+count_in (answer.Refused refusal) = Err refusal
+count_in _ = Err Gap
+
+counts : (first second : Result ℕ Refusal) → said_count first ≡ said_count second → first ≡ second
+counts = told_as_answer said_count count_as count_in byte same again
+  where
+    byte : (x : Result ℕ Refusal) → ability_is_byte (count_as x) ≡ true
+    byte (Ok n) = refl
+    byte (Err refusal) = refl
+
+    same : (x : Result ℕ Refusal) → said (count_as x) ≡ said_count x
+    same (Ok n) = refl
+    same (Err refusal) = refl
+
+    again : (x : Result ℕ Refusal) → count_in (count_as x) ≡ x
+    again (Ok n) = refl
+    again (Err refusal) = refl
 
 -- What resolving came to, found again in an answer that says it.
 abbrev resolution_in : Answer → Resolution
@@ -102,9 +167,11 @@ no_second_answer =
           (one_answer first.answer second.answer a b (m.answer ∙ sym n.answer)) (m.device ∙ sym n.device);
       told_resolution = resolutions;
       told_ending = told_by_law said_of_ending ending_at ending_again;
-      told_heard = told_by_law said_of_heard (λ s. cond (eqb s.kind 0) Nothing (Ended (ending_at s))) heard_again;
+      told_heard = told_by_law said_of_heard (λ s. cond (eqb s.kind 0) None (Some (ending_at s))) heard_again;
+      told_judging = judgings;
+      told_count = counts;
       told_gap = told_by_law said_of_gap (λ s. cond (eqb s.kind 0x84) (Positions s.value) (cond (eqb s.kind 0x85) Quiet Unfit)) gap_again;
       told_step = λ first second e f.
           ap₂ (λ (heard : Heard) (reader : Reader). record { heard = heard; reader = reader })
-          (told_by_law said_of_heard (λ s. cond (eqb s.kind 0) Nothing (Ended (ending_at s))) heard_again first.heard second.heard e) f;
+          (told_by_law said_of_heard (λ s. cond (eqb s.kind 0) None (Some (ending_at s))) heard_again first.heard second.heard e) f;
     }

@@ -1,5 +1,6 @@
 -- What is so of every device that calls have made: it is so of a fresh one, and every event keeps it.
-use Rattle.std.specs.Prelude.{Option, Some, None}
+use Rattle.line_reader.specs.Endings.{Heard}
+use Rattle.std.specs.Prelude.{Option, Some, None, Ok, Err}
 use Prim.Native.Nat.{ℕ, ◌+◌, ◌^◌, ◌<◌, ◌≤◌}
 use mathlib.Core.Path.{◌≡◌, refl, sym, ap₂}
 use mathlib.Core.Bool.{Bool, true, false, cond, not, ◌&&◌, ◌||◌, false≢true}
@@ -18,9 +19,7 @@ use Rattle.page_resolve.specs.Rates.{rate_order}
 use Rattle.page_resolve.specs.Resolving.{resolution_of, said_of}
 use Rattle.page_resolve.proofs.SettledAnswers.{resolves}
 use Rattle.line_mode.specs.declared.modes.LineMode.{LineMode}
-use Rattle.line_reader.specs.declared.endings.Ending.TheVariants.{Good, Gap, Cut, Check}
-use Rattle.line_reader.specs.declared.endings.Heard.{Heard}
-use Rattle.line_reader.specs.declared.endings.Heard.TheVariants.{Nothing, Ended}
+use Rattle.line_reader.specs.declared.endings.Broken.TheVariants.{Gap, Cut, Check}
 use Rattle.line_reader.specs.Reading.{edge_of}
 use Rattle.port_state.specs.declared.State.{State}
 use Rattle.port_state.specs.declared.State.TheVariants as state
@@ -260,11 +259,11 @@ module _ (reading word : ℕ) (is_word : word < 2 ^ 48) where
 -- Edges.
 heard_brings : (h : Heard) (reading : ℕ) (d : Device) → HeardWord h → Sound d → Brings (kinds_for (Edge reading)) (hears h reading d)
 unfolding hears
-heard_brings Nothing reading d w s = silent s
-heard_brings (Ended (Good word)) reading d w s = in_state reading word w d.state d s
-heard_brings (Ended Gap) reading d w s = answers (refused refusal.Gap) refl (omega arith) s
-heard_brings (Ended Cut) reading d w s = answers (refused refusal.Cut) refl (omega arith) s
-heard_brings (Ended Check) reading d w s = answers (refused refusal.Check) refl (omega arith) s
+heard_brings None reading d w s = silent s
+heard_brings (Some (Ok word)) reading d w s = in_state reading word w d.state d s
+heard_brings (Some (Err Gap)) reading d w s = answers (refused refusal.Gap) refl (omega arith) s
+heard_brings (Some (Err Cut)) reading d w s = answers (refused refusal.Cut) refl (omega arith) s
+heard_brings (Some (Err Check)) reading d w s = answers (refused refusal.Check) refl (omega arith) s
 
 edge_brings : (mode : LineMode) (reading : ℕ) (d : Device) → Sound d → Brings (kinds_for (Edge reading)) (edge_due mode reading d)
 unfolding edge_due

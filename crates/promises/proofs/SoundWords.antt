@@ -1,4 +1,6 @@
 -- Facts about single values that the devices which calls have made rest on: a page that is heard is a word, an own page has selector 1 and is one too.
+use Rattle.line_reader.specs.Endings.{Heard}
+use Rattle.std.specs.Prelude.{Some, None, Ok, Err}
 use Prim.Native.Nat.{ℕ, ◌+◌, ◌%◌, ◌^◌, ◌<◌}
 use mathlib.Core.Path.{◌≡◌, ap, ◌∙◌}
 use mathlib.Core.Bool.{Bool, true, false, cond, not}
@@ -15,9 +17,7 @@ use Rattle.line_mode.specs.declared.modes.Judgement.{Judgement}
 use Rattle.line_mode.specs.declared.modes.Judgement.TheVariants.{Positions, Quiet, Unfit}
 use Rattle.line_mode.specs.Clock.{time_between}
 use Rattle.line_mode.specs.Gaps.{judgement_of}
-use Rattle.line_reader.specs.declared.endings.Ending.TheVariants.{Good, Gap, Cut, Check}
-use Rattle.line_reader.specs.declared.endings.Heard.{Heard}
-use Rattle.line_reader.specs.declared.endings.Heard.TheVariants.{Nothing, Ended}
+use Rattle.line_reader.specs.declared.endings.Broken.TheVariants.{Gap, Check}
 use Rattle.line_reader.specs.declared.reader.Reader.{Reader}
 use Rattle.line_reader.specs.declared.reader.Reader.TheVariants.{Fresh, Open, Dropping}
 use Rattle.line_reader.specs.Pattern.{asks}
@@ -34,16 +34,14 @@ use Rattle.port_timing.specs.Ticks.{own_page, echoing_page, acknowledging}
 
 -- A good page, if one is heard, is a word, from whatever reader.
 abbrev pub HeardWord : Heard → Type 0
-HeardWord Nothing = Unit {0}
-HeardWord (Ended (Good word)) = word < 2 ^ 48
-HeardWord (Ended Gap) = Unit {0}
-HeardWord (Ended Cut) = Unit {0}
-HeardWord (Ended Check) = Unit {0}
+HeardWord None = Unit {0}
+HeardWord (Some (Ok word)) = word < 2 ^ 48
+HeardWord (Some (Err broken)) = Unit {0}
 
-page_word_law : (bits : ℕ) → HeardWord (Ended (page_end bits))
+page_word_law : (bits : ℕ) → HeardWord (Some (page_end bits))
 page_word_law bits = by (agrees bits)
   where
-    by : (t : Bool) → HeardWord (Ended (cond t (Good (bits % 2 ^ 48)) Check))
+    by : (t : Bool) → HeardWord (Some (cond t (Ok (bits % 2 ^ 48)) (Err Check)))
     by true = mod-lt bits (pow_pos 48)
     by false = tt
 
@@ -51,7 +49,7 @@ arrives_word : (at bits reading : ℕ) → HeardWord (arrives at bits reading).h
 unfolding arrives
 arrives_word at bits reading = by (eqb at 157)
   where
-    by : (t : Bool) → HeardWord (cond t (step (Ended (page_end bits)) (Dropping reading)) (step Nothing (Open at reading bits))).heard
+    by : (t : Bool) → HeardWord (cond t (step (Some (page_end bits)) (Dropping reading)) (step None (Open at reading bits))).heard
     by true = page_word_law bits
     by false = tt
 
@@ -61,7 +59,7 @@ goes_word mode at bits reading Quiet = tt
 goes_word mode at bits reading Unfit = tt
 goes_word mode at bits reading (Positions k) = by (asks mode at k)
   where
-    by : (t : Bool) → HeardWord (cond t (arrives (at + k) (with_bit at k bits) reading) (step (Ended Gap) (Dropping reading))).heard
+    by : (t : Bool) → HeardWord (cond t (arrives (at + k) (with_bit at k bits) reading) (step (Some (Err Gap)) (Dropping reading))).heard
     by true = arrives_word (at + k) (with_bit at k bits) reading
     by false = tt
 

@@ -1,4 +1,6 @@
 -- An edge: a device and its twin say the same and stay twins.
+use Rattle.line_reader.specs.Endings.{refusal_of, Heard}
+use Rattle.std.specs.Prelude.{Some, None, Ok, Err}
 use Prim.Native.Nat.{ℕ}
 use mathlib.Core.Path.{refl, ap}
 use mathlib.Core.Bool.{true, not, ◌&&◌}
@@ -8,9 +10,6 @@ use Rattle.answers.specs.declared.Refusal.TheVariants as refusal
 use Rattle.page_word.specs.Fields.{field_of, has_other_selector, is_tie}
 use Rattle.page_word.specs.NextPages.{same_toggle}
 use Rattle.page_word.specs.declared.fields.Field.TheVariants as field
-use Rattle.line_reader.specs.declared.endings.Ending.TheVariants.{Good, Gap, Cut, Check}
-use Rattle.line_reader.specs.declared.endings.Heard.{Heard}
-use Rattle.line_reader.specs.declared.endings.Heard.TheVariants.{Nothing, Ended}
 use Rattle.line_reader.specs.Reading.{edge_of}
 use Rattle.line_reader.proofs.ClockShift.{edge_later}
 use Rattle.port_state.specs.declared.State.{State}
@@ -67,11 +66,9 @@ module _ (δ : ℕ) (g : Flags) (reading : ℕ) where
   -- What was heard.
   heard : (h : Heard) (d : Device) → Alike δ d.lasting.flags g (hears h reading d) (hears h (shifted δ reading) (twin δ g d))
   unfolding hears
-  heard Nothing d = saying_same nothing kept
-  heard (Ended (Good word)) d = in_state d.state word d
-  heard (Ended Gap) d = saying_same (refused refusal.Gap) kept
-  heard (Ended Cut) d = saying_same (refused refusal.Cut) kept
-  heard (Ended Check) d = saying_same (refused refusal.Check) kept
+  heard None d = saying_same nothing kept
+  heard (Some (Ok word)) d = in_state d.state word d
+  heard (Some (Err broken)) d = saying_same (refused (refusal_of broken)) kept
 
   pub edge_alike : (mode : LineMode) (d : Device) → Alike δ d.lasting.flags g (edge_due mode reading d) (edge_due mode (shifted δ reading) (twin δ g d))
   unfolding edge_due

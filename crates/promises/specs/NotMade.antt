@@ -5,8 +5,7 @@ use Rattle.answers.specs.declared.Refusal.TheVariants as refusal
 use Rattle.answers.specs.Answers.{nothing, refused}
 use Rattle.page_resolve.specs.Resolving.{said_of, Resolution, rate_and_role}
 use Rattle.line_mode.specs.Modes.{lsm_mode}
-use Rattle.line_reader.specs.declared.endings.Ending.TheVariants.{Gap}
-use Rattle.line_reader.specs.declared.endings.Heard.TheVariants.{Ended}
+use Rattle.line_reader.specs.declared.endings.Broken.TheVariants.{Gap}
 use Rattle.line_reader.specs.declared.reader.Reader.TheVariants.{Open, Dropping}
 use Rattle.line_reader.specs.Reading.{step, edge_of}
 use Rattle.port_state.specs.declared.Device.{Device}
@@ -81,4 +80,4 @@ pub record NotMade : Type 0 where
   pub gap_of_two : step_due (Edge 1600) at156 ≡ due (refused refusal.Gap) (with_reader (Dropping 1600) at156)
   pub cut : step_due (Edge 3441) at156 ≡ due (refused refusal.Cut) (with_reader (Open 1 3441 0) at156)
   -- The reader by itself.
-  pub bare_reader : edge_of lsm_mode (Open 156 0 0) 800 ≡ step (Ended Gap) (Dropping 800)
+  pub bare_reader : edge_of lsm_mode (Open 156 0 0) 800 ≡ step (Some (Err Gap)) (Dropping 800)

@@ -1,19 +1,16 @@
 -- 01, "What the promises have to say": "That no second answer fits is proved". A contract fixes its result: whatever two results meet it are the same; `meant` is the one exception.
-use Rattle.std.specs.Prelude.{ℕ, ◌≡◌, Bool, true, List, Ok, Err}
+use Rattle.line_captures.specs.Captures.{ReadOutcome}
+use Rattle.std.specs.Prelude.{ℕ, ◌≡◌, Bool, true, List, Option, Result, Ok, Err}
 use Rattle.answers.specs.declared.Refusal.{Refusal}
 use Rattle.answers.specs.declared.Answer.{Answer}
-use Rattle.answers.specs.Answers.{Said, said, is_byte, ability_is_byte}
+use Rattle.answers.specs.Answers.{Said, said, said_count, is_byte, ability_is_byte}
 use Rattle.page_resolve.specs.Resolving.{said_of, Resolution}
-use Rattle.line_reader.specs.declared.endings.Ending.{Ending}
-use Rattle.line_reader.specs.declared.endings.Heard.{Heard}
 use Rattle.line_reader.specs.declared.reader.Reader.{Reader}
 use Rattle.line_reader.specs.declared.reader.Step.{Step}
-use Rattle.line_reader.specs.Endings.{said_of_ending, said_of_heard}
+use Rattle.line_reader.specs.Endings.{said_of_ending, said_of_heard, Ending, Heard}
 use Rattle.line_mode.specs.declared.modes.LineMode.{LineMode}
-use Rattle.line_mode.specs.declared.modes.Found.{Found}
 use Rattle.line_mode.specs.declared.modes.Judgement.{Judgement}
-use Rattle.line_mode.specs.Gaps.{said_of_gap}
-use Rattle.line_captures.specs.declared.captures.ReadOutcome.{ReadOutcome}
+use Rattle.line_mode.specs.Gaps.{said_of_gap, said_of_judging}
 use Rattle.port_state.specs.declared.Device.{Device}
 use Rattle.port_state.specs.declared.Reply.{Reply}
 use Rattle.port_state.specs.declared.State.{State}
@@ -47,7 +44,7 @@ pub record NoSecondAnswer : Type 0 where
   pub test : Single Bool
   pub list : Single (List ℕ)
   pub mode : Single LineMode
-  pub found : Single Found
+  pub found : Single (Option LineMode)
   pub judgement : Single Judgement
   pub step : Single Step
   pub read : Single ReadOutcome
@@ -75,10 +72,12 @@ pub record NoSecondAnswer : Type 0 where
   -- A reply that meets what is due: its answer and its device.
   pub reply : (first second : Reply) (due : Due) → ability_is_byte first.answer ≡ true → ability_is_byte second.answer ≡ true
       → Meets first due → Meets second due → first ≡ second
-  -- What resolving comes to, how an attempt ends, what is heard of an edge and what a gap is are told, each, by what is said of it;
+  -- What resolving comes to, how an attempt ends, what is heard of an edge, what judging and counting come to and what a gap is are told, each, by what is said of it;
   pub told_resolution : (first second : Resolution) → resolved_is_byte first ≡ true → resolved_is_byte second ≡ true → said_of first ≡ said_of second → first ≡ second
   pub told_ending : (first second : Ending) → said_of_ending first ≡ said_of_ending second → first ≡ second
   pub told_heard : (first second : Heard) → said_of_heard first ≡ said_of_heard second → first ≡ second
+  pub told_judging : (first second : Result Judgement Refusal) → said_of_judging first ≡ said_of_judging second → first ≡ second
+  pub told_count : (first second : Result ℕ Refusal) → said_count first ≡ said_count second → first ≡ second
   pub told_gap : (first second : Judgement) → said_of_gap first ≡ said_of_gap second → first ≡ second
   -- and a reader's step by what is said of it and the reader that it leaves.
   pub told_step : (first second : Step) → said_of_heard first.heard ≡ said_of_heard second.heard → first.reader ≡ second.reader → first ≡ second

@@ -3,8 +3,8 @@ use Rattle.std.proofs.Common.{◌-◌, length}
 use Rattle.bench_listing.proofs.WalkLaws.{Walking}
 use Rattle.bench_listing.proofs.capture.put_capture.Given as goal
 
-abbrev pub invariant-loop-ending : goal.invariant-loop-ending
-invariant-loop-ending l = Walking l.mode l.capture l.initial.text l.text l.place l.number l.pages
+abbrev pub invariant-loop-attempt : goal.invariant-loop-attempt
+invariant-loop-attempt l = Walking l.mode l.capture l.initial.text l.text l.place l.number l.pages
 
-abbrev pub decreases-loop-ending : goal.decreases-loop-ending
-decreases-loop-ending l = length l.capture - l.place
+abbrev pub decreases-loop-attempt : goal.decreases-loop-attempt
+decreases-loop-attempt l = length l.capture - l.place

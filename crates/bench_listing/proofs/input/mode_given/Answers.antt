@@ -6,9 +6,9 @@ use Rattle.bench_listing.proofs.input.mode_given.Goals as goal
 pub returns-in_default : goal.returns-in_default
 returns-in_default c = nothing_given _ (omega arith)
 
-pub returns-in-Known : goal.returns-in-Known
-returns-in-Known c =
-    c.given_in.ensures ∙ ap (given_in _) (all_behind c.args.input.now) ∙ by_mode_law _ _ _ c.in-Known.ensures c.from-mode.ensures (omega arith)
+pub returns-in-Some : goal.returns-in-Some
+returns-in-Some c =
+    c.given_in.ensures ∙ ap (given_in _) (all_behind c.args.input.now) ∙ by_mode_law _ _ _ c.in-Some.ensures c.from-mode.ensures (omega arith)
 
-pub returns-in-Unknown : goal.returns-in-Unknown
-returns-in-Unknown c = by_mode_law _ _ _ c.in-Unknown.ensures c.from-mode.ensures (omega arith)
+pub returns-in-None : goal.returns-in-None
+returns-in-None c = by_mode_law _ _ _ c.in-None.ensures c.from-mode.ensures (omega arith)

@@ -1,21 +1,21 @@
+use Rattle.line_captures.specs.Captures.{attempt}
 use Rattle.std.proofs.Common.{sym, ap, ◌∙◌, arith}
 use Rattle.line_reader.specs.declared.reader.Step.{Step}
-use Rattle.line_captures.specs.declared.captures.ReadOutcome.TheVariants.{Attempt}
 use Rattle.line_captures.proofs.CaptureLaws.{try_first, try_further, tried, ran_out}
 use Rattle.line_captures.proofs.captures.first_attempt.Goals as goal
 
 pub loop-i-init : goal.loop-i-init
 loop-i-init c = try_first _ _ _ (omega arith)
 
-pub returns-in-Ended : goal.returns-in-Ended
-returns-in-Ended c =
+pub returns-in-Some : goal.returns-in-Some
+returns-in-Some c =
     let brought = c.go_on-step.ensures in
-    ap (Attempt c.in-Ended.ending) c.next_opens.ensures
-    ∙ sym (tried _ _ _ _ _ c.loop-i.invariant _ _ (ap (λ (s : Step). s.reader) brought) (ap (λ (s : Step). s.heard) (sym brought) ∙ c.in-Ended.is) (omega arith))
+    ap (attempt c.in-Some.ending) c.next_opens.ensures
+    ∙ sym (tried _ _ _ _ _ c.loop-i.invariant _ _ (ap (λ (s : Step). s.reader) brought) (ap (λ (s : Step). s.heard) (sym brought) ∙ c.in-Some.is) (omega arith))
 
 pub loop-i-preserved : goal.loop-i-preserved
 loop-i-preserved c =
-    try_further _ _ _ _ _ _ _ c.loop-i.invariant (omega arith) _ c.go_on-step.ensures c.in-Nothing.is _ _
+    try_further _ _ _ _ _ _ _ c.loop-i.invariant (omega arith) _ c.go_on-step.ensures c.in-None.is _ _
     c.position_of-at.ensures c.bits_of-bits.ensures
 
 pub returns : goal.returns
