@@ -15,7 +15,8 @@ use Rattle.answers.specs.declared.Refusal.TheVariants.{Gap, Cut, Check, Selector
 use Rattle.answers.specs.declared.Answer.{Answer}
 use Rattle.answers.specs.declared.Answer.TheVariants.{Nothing, Refused, Page, Order, Settled, Value, Number, Quiet, Unfit}
 use Rattle.answers.specs.Numbers.{number_of}
-use Rattle.answers.specs.Answers.{Said, said, ability_is_byte, packed}
+use Rattle.answers.specs.Answers.{Said, said, said_count, ability_is_byte, packed}
+use Rattle.std.specs.Prelude.{Result, Ok, Err}
 
 -- The refusal with a number; Length for a number that no other has.
 abbrev refusal_at : ℕ → Refusal
@@ -97,6 +98,20 @@ again Unfit h = refl
 
 pub one_answer : (a b : Answer) → ability_is_byte a ≡ true → ability_is_byte b ≡ true → said a ≡ said b → a ≡ b
 one_answer a b ha hb e = sym (again a ha) ∙ ap heard e ∙ again b hb
+
+-- What an answer says to a call that counts or refuses; only these two cases are looked at.
+counted_in : Answer → Result ℕ Refusal
+counted_in (Number n) = Ok n
+counted_in (Refused refusal) = Err refusal
+counted_in _ = Err Gap
+
+-- So a call that counts or refuses has one result for what is said.
+pub one_count : (a b : Result ℕ Refusal) → said_count a ≡ said_count b → a ≡ b
+unfolding counted_in
+one_count (Ok m) (Ok n) e = ap counted_in (one_answer (Number m) (Number n) refl refl e)
+one_count (Ok m) (Err s) e = ap counted_in (one_answer (Number m) (Refused s) refl refl e)
+one_count (Err r) (Ok n) e = ap counted_in (one_answer (Refused r) (Number n) refl refl e)
+one_count (Err r) (Err s) e = ap counted_in (one_answer (Refused r) (Refused s) refl refl e)
 
 -- A refusal says something: no refusal has the number 0.
 pub never_zero : (r : Refusal) → eqb (number_of r) 0 ≡ false
