@@ -4,7 +4,7 @@ use mathlib.Core.Bool.{Bool, true, false, cond}
 use mathlib.Core.List.{List, [], ◌∷◌}
 use Prim.Native.Nat.{ℕ, ◌-◌, ◌%◌, ◌<◌, ◌≤◌}
 use native.Mathlib.Omega.{arith}
-use borrow.Author.Tests.{ltb-false}
+use borrow.Author.Tests.{lt-ltb, le-ltb, eq-eqb, ne_eqb, ltb-false}
 use lib.Dec.{eqb, ltb}
 use lib.ListN.{length, get_or, take, drop, length-drop}
 use lib.Seq.{drop-cons, take_at}
@@ -25,6 +25,27 @@ pub nothing_given : (input : List ℕ) → length input ≡ 0 → Err Mode ≡ g
 unfolding given
 nothing_given [] h = refl
 nothing_given (x ∷ rest) h = absurd (omega arith)
+
+-- In a mode that there is, by the length of the input as it is lent.
+module _ (input : List ℕ) (mode : ℕ) (some : 1 ≤ length input) where
+  whole : length (mode ∷ drop 1 input) ≡ length input
+  whole = let l = length-drop 1 input in omega arith
+
+  pub too_long : 32001 < length input → Err Room ≡ given_in mode (drop 1 input)
+  too_long h = rw (lt-ltb 32001 (length (mode ∷ drop 1 input)) (let w = whole in omega arith))
+
+  module _ (fits : length input ≤ 32001) where
+    within : length (mode ∷ drop 1 input) ≤ 32001
+    within = let w = whole in omega arith
+
+    fours : length (drop 1 input) % 4 ≡ (length input - 1) % 4
+    fours = ap (λ (n : ℕ). n % 4) (length-drop 1 input)
+
+    pub capture_given : (length input - 1) % 4 ≡ 0 → Ok mode ≡ given_in mode (drop 1 input)
+    capture_given h = rw (le-ltb 32001 (length (mode ∷ drop 1 input)) within, eq-eqb (length (drop 1 input) % 4) 0 (fours ∙ h))
+
+    pub odd_given : ((length input - 1) % 4 ≡ 0 → ⊥) → Err Odd ≡ given_in mode (drop 1 input)
+    odd_given h = rw (le-ltb 32001 (length (mode ∷ drop 1 input)) within, ne_eqb (length (drop 1 input) % 4) 0 (λ e. h (sym fours ∙ e)))
 
 -- By the mode that the first byte names.
 pub by_mode_law : (input : List ℕ) (mode : ℕ) (found : Option LineMode) → found ≡ mode_of mode → mode ≡ get_or input 0 0 → 0 < length input

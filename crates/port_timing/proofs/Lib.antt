@@ -1,1 +1,2 @@
+pub mod AtThree
 pub mod AloneT4
