@@ -37,12 +37,8 @@ impl Display for Told<Reader> {
 // The state, the own base page, the held one and the own Next Page in hex, whether a page is out, the count and the reader.
 impl Display for Told<Device> {
     fn fmt<W: fmt::Write>(&self, f: &mut Formatter<W>) -> fmt::Result {
-        let Device {
-            state,
-            link,
-            lasting: _,
-        } = self.0;
-        let state = Told(state);
+        let link = self.0.link;
+        let state = Told(self.0.state);
         let (own, held, count) = (link.talk.own, link.talk.held, link.talk.count);
         let next = link.next.own;
         let out = if link.talk.out {

@@ -9,87 +9,44 @@ use line_reader::Reader;
 use lines::tell;
 use page_resolve::Settled;
 use page_word::WIDE;
-use port_state::{Device, Link, NextPages, Round, State, Talk};
+use port_state::{
+    Device, Round, State, with_count, with_held, with_out, with_outcome, with_own, with_own_next,
+    with_reader, with_round, with_state,
+};
 use port_step::Event;
 use std::io;
 
 // A device in Complete with a page out, these two pages and this count.
 fn complete(own: u64, held: u64, count: u32) -> Device {
-    let fresh = Device::fresh();
-    let talk = Talk {
-        own,
-        held,
-        count,
-        out: true,
-        ..fresh.link.talk
-    };
-    Device {
-        state: State::Complete,
-        link: Link { talk, ..fresh.link },
-        ..fresh
-    }
+    let paged = with_held(with_own(Device::fresh(), own), held);
+    with_state(with_out(with_count(paged, count), true), State::Complete)
 }
 
 // The same at round first, where no device is in Complete.
 fn complete_at_round_first() -> Device {
     let device = complete(0x850001, 0x898001, 2);
-    let next = NextPages {
-        own: 0x2801,
-        round: Round::First,
-        ..device.link.next
-    };
-    Device {
-        link: Link {
-            next,
-            ..device.link
-        },
-        ..device
-    }
+    with_round(with_own_next(device, 0x2801), Round::First)
 }
 
 // A device in Up, settled on 1000BASE-T1 as slave, with a page out.
 fn up() -> Device {
-    let fresh = Device::fresh();
-    let outcome = Some(Ok(Settled {
+    let settled = Settled {
         ability: 2,
         master: false,
-    }));
-    let talk = Talk {
-        out: true,
-        ..fresh.link.talk
     };
-    Device {
-        state: State::Up,
-        link: Link {
-            talk,
-            outcome,
-            ..fresh.link
-        },
-        ..fresh
-    }
+    let device = with_outcome(Device::fresh(), Some(Ok(settled)));
+    with_state(with_out(device, true), State::Up)
 }
 
 // A device in Ability whose reader stands at position 156, where no page has a transition.
 fn open_at_156() -> Device {
-    let fresh = Device::fresh();
-    let talk = Talk {
-        own: 0x850001,
-        ..fresh.link.talk
-    };
     let reader = Reader::Open {
         at: 156,
         last: 0,
         bits: 0,
     };
-    Device {
-        state: State::Ability,
-        link: Link {
-            talk,
-            reader,
-            ..fresh.link
-        },
-        ..fresh
-    }
+    let device = with_reader(with_own(Device::fresh(), 0x850001), reader);
+    with_state(device, State::Ability)
 }
 
 // A page is sent.
