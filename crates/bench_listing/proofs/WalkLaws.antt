@@ -2,7 +2,9 @@
 use Rattle.line_reader.specs.Endings.{Ending}
 use Rattle.std.specs.Prelude.{Some, None, Ok, Err}
 use mathlib.Core.Path.{◌≡◌, refl, sym, ap, ap₂, ◌∙◌}
-use mathlib.Core.Bool.{cond}
+use mathlib.Core.Bool.{Bool, true, false, cond}
+use mir.Val.{bool_byte}
+use Rattle.std.specs.Result.{is_ok}
 use mathlib.Core.List.{List, [], ◌∷◌, ◌++◌, append-nil, append_assoc}
 use Prim.Native.Nat.{ℕ, zero, suc, ◌+◌, ◌-◌, ◌*◌, ◌≤◌}
 use native.Mathlib.Omega.{arith}
@@ -62,6 +64,11 @@ module _ (n : ℕ) (ending : Ending) (rest : List Ending) where
   unfolding bad_ones
   bad_more = refl
 
+-- A good page counts as one, and another attempt as none.
+pub one_if_good : (ending : Ending) → bool_byte (is_ok ending) ≡ cond (is_good ending) 1 0
+one_if_good (Ok word) = refl
+one_if_good (Err broken) = refl
+
 one_of_two : (ending : Ending) → cond (is_good ending) 1 0 + cond (is_good ending) 0 1 ≡ 1
 one_of_two (Ok word) = refl
 one_of_two (Err broken) = refl
@@ -72,16 +79,21 @@ one_more : (more mode : ℕ) (capture : List ℕ) (place : ℕ) (ending : Ending
 unfolding attempts_from
 one_more more mode capture place ending next h = rw h
 
-pub no_more : (mode : ℕ) (capture : List ℕ) (place : ℕ) (outcome : ReadOutcome) → outcome ≡ read_of mode capture place
-    → ((ending : Ending) (next : ℕ) → outcome ≡ attempt ending next → ⊥) → (more : ℕ) → attempts_from more mode capture place ≡ []
+abbrev pub is_attempt : ReadOutcome → Bool
+is_attempt (Ok (Some attempt)) = true
+is_attempt (Ok None) = false
+is_attempt (Err refusal) = false
+
+pub no_more : (mode : ℕ) (capture : List ℕ) (place : ℕ) (outcome : ReadOutcome) → outcome ≡ read_of mode capture place → is_attempt outcome ≡ false
+    → (more : ℕ) → attempts_from more mode capture place ≡ []
 unfolding attempts_from
 no_more mode capture place outcome e none zero = refl
 no_more mode capture place outcome e none (suc more) = rw (sym e) (by outcome none)
   where
-    by : (outcome : ReadOutcome) → ((ending : Ending) (next : ℕ) → outcome ≡ attempt ending next → ⊥) → onwards outcome (attempts_from more mode capture) ≡ []
+    by : (outcome : ReadOutcome) → is_attempt outcome ≡ false → onwards outcome (attempts_from more mode capture) ≡ []
     by (Err refusal) none = refl
     by (Ok None) none = refl
-    by (Ok (Some a)) none = absurd (none a.ending a.next refl)
+    by (Ok (Some attempt)) none = cc
 
 module _ (mode : ℕ) (capture : List ℕ) (before text : Text) (place attempted pages : ℕ) (w : Walking mode capture before text place attempted pages) where
   -- One attempt on.

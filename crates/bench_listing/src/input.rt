@@ -23,6 +23,7 @@ fn decode(bytes: &[u8], readings: &mut [u32]) -> usize
     ensures few { result ≤ 8000 }
 {
     let (fours, _) = bytes.as_chunks::<4>();
+    // By an index: a loop over a zip of iter_mut names nothing that it has written, so no invariant can say it.
     for (i, four) in fours.iter().enumerate() {
         readings[i] = u32::from_le_bytes(*four);
     }
@@ -50,10 +51,8 @@ fn mode_given(input: &[u8]) -> Result<u32, Refusal>
         return Err(Refusal::Mode);
     };
     let mode = u32::from(*first);
-    match mode_of(mode) {
-        Some(_) => given_in(mode, bytes),
-        None => Err(Refusal::Mode),
-    }
+    mode_of(mode).ok_or(Refusal::Mode)?;
+    given_in(mode, bytes)
 }
 
 // The listing of an input, into lists that hold every one.

@@ -1,7 +1,7 @@
 // The calls that take lists: each lends lists of its own, and hands back its answer cells.
 use crate::cells::{mode_of, reading_of, symbol_of};
 use answers::{Answer, Refusal};
-use line_captures::{ReadOutcome, answer_to_read};
+use line_captures::answer_to_read;
 use line_mode::mode_of as line_mode_of;
 use line_reader::{Reader, answer_to_heard};
 use std::alloc::{AllocError, Global};
@@ -51,14 +51,6 @@ pub(crate) fn write(
     with_list(alloc, Answer::from(counted), &entries)
 }
 
-// Where the next attempt opens; the place itself if there is none.
-fn next_place(outcome: ReadOutcome, place: usize) -> usize {
-    match outcome {
-        Ok(Some(attempt)) => attempt.next,
-        _ => place,
-    }
-}
-
 // Operation 4: the answer, and where the next attempt opens, which is the place itself if there is none.
 pub(crate) fn read(
     alloc: Global,
@@ -68,8 +60,11 @@ pub(crate) fn read(
 ) -> Result<Vec<u64>, AllocError> {
     let readings: Vec<u32> = capture.iter().copied().map(reading_of).collect(alloc)?;
     let outcome = line_captures::read(&readings, place as usize, mode_of(mode));
-    let next = next_place(outcome, place as usize);
-    Ok(vec![in alloc; answer_to_read(outcome).packed(), next as u64]?)
+    let next = match outcome {
+        Ok(Some(attempt)) => attempt.next as u64,
+        _ => place,
+    };
+    Ok(vec![in alloc; answer_to_read(outcome).packed(), next]?)
 }
 
 // Operation 6: an answer to each event, from a fresh device on.

@@ -1,7 +1,8 @@
-use Rattle.std.proofs.Common.{◌≡◌, ℕ, sym, arith}
+use Rattle.std.proofs.Common.{rules, ◌≡◌, false, sym, ap, ◌∙◌, arith}
+use mir.Val.{bool_byte}
 use Rattle.line_captures.proofs.Walk.{attempt_forward}
 use Rattle.bench_listing.proofs.PlacingLaws.{same_long}
-use Rattle.bench_listing.proofs.WalkLaws.{walk_start, walk_on, no_more, walked}
+use Rattle.bench_listing.proofs.WalkLaws.{walk_start, one_if_good, walk_on, is_attempt, no_more, walked}
 use Rattle.bench_listing.proofs.capture.put_capture.Goals as goal
 use Rattle.bench_listing.proofs.capture.put_capture.Goals.{in_default, in_default-2}
 
@@ -25,14 +26,10 @@ loop-attempt-smaller c = let ahead = attempt_forward _ _ _ _ _ (sym (rw c.in-Ok-
 
 pub loop-attempt-preserved : goal.loop-attempt-preserved
 loop-attempt-preserved c =
-    walk_on _ _ _ _ _ _ _ c.loop-attempt.invariant _ _ (sym (rw c.in-Ok-Some.field-0-is at c.in-Ok-Some.ensures)) _ c.good_one-pages.ensures.count _ c.put_attempt.ensures.text
+    walk_on _ _ _ _ _ _ _ c.loop-attempt.invariant _ _ (sym (rw c.in-Ok-Some.field-0-is at c.in-Ok-Some.ensures)) _ (c.from-pages.ensures ∙ ap bool_byte c.is_ok.ensures.value ∙ one_if_good _) _ c.put_attempt.ensures.text
     c.put_attempt.ensures.short
 
 pub returns : goal.returns
 returns c =
-    walked _ _ _ _ _ _ _ c.loop-attempt.invariant _ _ (no_more _ _ _ _ c.read.ensures
-    (elim c.match-read.branch [
-      | in_default w ↦ λ ending next h. let z : ◌≡◌ {A = ℕ} 0 1 = cc in omega arith
-      | in_default-2 w ↦ λ ending next h. let z : ◌≡◌ {A = ℕ} 0 1 = cc in omega arith
-    ])) c.put_first_line.ensures.text
-    c.put_last_line.ensures
+    let none : is_attempt c.read.result ≡ false = elim c.match-read.branch [ in_default w ↦ search rules | in_default-2 w ↦ ap is_attempt w.in_default.is ] in
+    walked _ _ _ _ _ _ _ c.loop-attempt.invariant _ _ (no_more _ _ _ _ c.read.ensures none) c.put_first_line.ensures.text c.put_last_line.ensures
