@@ -50,38 +50,27 @@ fn open_at_156() -> Device {
 }
 
 // A page is sent.
-fn tell_sent(rt: &impl Print, words: &str, device: Device) -> io::Result<()> {
+fn tell_sent(rt: &impl Print, record: &str, device: Device) -> io::Result<()> {
+    let words = format_args!("{record}; sent at 1000");
     tell(rt, words, device, Event::Sent { reading: 1000 })
 }
 
 // Pages that no device holds in Complete: wider than 48 bits, with selector 0, with equal nonces. Then a count and a round that none has there.
 fn tell_complete(rt: &impl Print) -> io::Result<()> {
     let wide = complete(WIDE, 0xA90001, 2);
-    tell_sent(rt, "complete, own page 2^48, count 2; sent at 1000", wide)?;
+    tell_sent(rt, "complete, own page 2^48, count 2", wide)?;
     let no_selector = complete(0x850000, 0xA90001, 2);
-    tell_sent(
-        rt,
-        "complete, own selector 0, count 2; sent at 1000",
-        no_selector,
-    )?;
+    tell_sent(rt, "complete, own selector 0, count 2", no_selector)?;
     let equal_nonces = complete(0x850001, 0xA50001, 2);
-    tell_sent(
-        rt,
-        "complete, equal nonces, count 2; sent at 1000",
-        equal_nonces,
-    )?;
+    tell_sent(rt, "complete, equal nonces, count 2", equal_nonces)?;
     let counted_to_4 = complete(0x850001, 0xA90001, 4);
-    tell_sent(rt, "complete, count 4; sent at 1000", counted_to_4)?;
+    tell_sent(rt, "complete, count 4", counted_to_4)?;
     let round_first = complete_at_round_first();
-    tell_sent(
-        rt,
-        "complete, round first, count 2; sent at 1000",
-        round_first,
-    )
+    tell_sent(rt, "complete, round first, count 2", round_first)
 }
 
 fn tell_up(rt: &impl Print) -> io::Result<()> {
-    tell_sent(rt, "up, page out; sent at 1000", up())?;
+    tell_sent(rt, "up, page out", up())?;
     let edge = Event::Edge { reading: 1000 };
     tell(rt, "up, page out; edge at 1000", up(), edge)?;
     let tick = Event::Tick {
