@@ -1,5 +1,5 @@
 -- No second answer fits: what is said tells the answer, so two that say the same are one.
-use Rattle.std.specs.Prelude.{ℕ, Some, None, Result, Ok, Err}
+use Rattle.std.specs.Prelude.{Some, None, Result, Ok, Err}
 use mathlib.Core.Path.{◌≡◌, refl, sym, ap, ap₂, ◌∙◌}
 use mathlib.Core.Bool.{true, cond}
 use lib.Dec.{eqb}
@@ -7,8 +7,8 @@ use Rattle.answers.specs.declared.Answer.{Answer}
 use Rattle.answers.specs.declared.Answer.TheVariants as answer
 use Rattle.answers.specs.declared.Refusal.{Refusal}
 use Rattle.answers.specs.declared.Refusal.TheVariants.{Gap}
-use Rattle.answers.specs.Answers.{Said, said, said_count, ability_is_byte}
-use Rattle.answers.proofs.OneAnswer.{one_answer}
+use Rattle.answers.specs.Answers.{Said, said, ability_is_byte}
+use Rattle.answers.proofs.OneAnswer.{one_answer, one_count}
 use Rattle.page_resolve.specs.Resolving.{Resolution, rate_and_role, said_of}
 use Rattle.line_reader.specs.declared.endings.Broken.TheVariants as broken
 use Rattle.line_reader.specs.declared.reader.Reader.{Reader}
@@ -91,31 +91,6 @@ judgings = told_as_answer said_of_judging judging_as judging_in byte same again
     again (Ok Unfit) = refl
     again (Err refusal) = refl
 
--- What counting came to, so too.
-abbrev count_as : Result ℕ Refusal → Answer
-count_as (Ok n) = answer.Number n
-count_as (Err refusal) = answer.Refused refusal
-
-abbrev count_in : Answer → Result ℕ Refusal
-count_in (answer.Number n) = Ok n
-count_in (answer.Refused refusal) = Err refusal
-count_in _ = Err Gap
-
-counts : (first second : Result ℕ Refusal) → said_count first ≡ said_count second → first ≡ second
-counts = told_as_answer said_count count_as count_in byte same again
-  where
-    byte : (x : Result ℕ Refusal) → ability_is_byte (count_as x) ≡ true
-    byte (Ok n) = refl
-    byte (Err refusal) = refl
-
-    same : (x : Result ℕ Refusal) → said (count_as x) ≡ said_count x
-    same (Ok n) = refl
-    same (Err refusal) = refl
-
-    again : (x : Result ℕ Refusal) → count_in (count_as x) ≡ x
-    again (Ok n) = refl
-    again (Err refusal) = refl
-
 -- What resolving came to, found again in an answer that says it.
 abbrev resolution_in : Answer → Resolution
 resolution_in answer.Nothing = Err Gap
@@ -169,7 +144,7 @@ no_second_answer =
       told_ending = told_by_law said_of_ending ending_at ending_again;
       told_heard = told_by_law said_of_heard (λ s. cond (eqb s.kind 0) None (Some (ending_at s))) heard_again;
       told_judging = judgings;
-      told_count = counts;
+      told_count = one_count;
       told_gap = told_by_law said_of_gap (λ s. cond (eqb s.kind 0x84) (Positions s.value) (cond (eqb s.kind 0x85) Quiet Unfit)) gap_again;
       told_step = λ first second e f.
           ap₂ (λ (heard : Heard) (reader : Reader). record { heard = heard; reader = reader })
