@@ -1,5 +1,5 @@
 -- 01, "The negotiation (LSM)", and its amendments: the tick event, with its draw; the timers that it looks at, the pages that it orders.
-use Rattle.std.specs.Prelude.{ℕ, ◌+◌, ◌%◌, Bool, true, false, not, ◌&&◌, [], ◌∷◌, if◌then◌else◌, Some, None, Ok, Err}
+use Rattle.std.specs.Prelude.{ℕ, ◌+◌, ◌%◌, Bool, true, false, not, ◌&&◌, [], ◌∷◌, if◌then◌else◌, Option, Some, None, Ok, Err}
 use Rattle.answers.specs.Choices.{◌≤?◌, ◌=?◌, ◌<?◌}
 use Rattle.page_resolve.specs.Roles.{is_forced, has_t4}
 use Rattle.line_mode.specs.Clock.{time_between}
@@ -38,6 +38,11 @@ inhibit_for ability =
     if among ability (1 ∷ 22 ∷ []) then 402000000
     else if ability =? 9 then 3060000000
     else inhibit
+
+-- By the rate, if there is one.
+abbrev pub inhibit_at : (rate : Option ℕ) → ℕ
+inhibit_at None = inhibit
+inhibit_at (Some ability) = inhibit_for ability
 
 -- By the kept outcome.
 abbrev pub inhibit_of : Outcome → ℕ

@@ -1,6 +1,6 @@
 // The numbers of the timers, and when one has run out.
 ghost use Rattle.std.specs.Prelude.{◌≡◌};
-ghost use Rattle.port_timing.specs.Ticks.{run_out, low_speed, inhibit_for, inhibit_of};
+ghost use Rattle.port_timing.specs.Ticks.{run_out, low_speed, inhibit_for, inhibit_at, inhibit_of};
 
 use line_mode::{LineMode, time_between};
 use port_state::Outcome;
@@ -46,6 +46,16 @@ fn inhibit_for(ability: u8) -> u32
         1 | 22 => 402000000,
         9 => 3060000000,
         _ => INHIBIT,
+    }
+}
+
+// The inhibit timer's number with a rate or without one.
+pub(crate) fn inhibit_at(rate: Option<u8>) -> u32
+    ensures { result ≡ inhibit_at rate }
+{
+    match rate {
+        Some(ability) => inhibit_for(ability),
+        None => INHIBIT,
     }
 }
 

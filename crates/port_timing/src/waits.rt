@@ -1,11 +1,10 @@
 // What a tick looks at, by itself: whether a wait is over at low speed. A tick that finds none over does nothing.
 ghost use Rattle.std.specs.Prelude.{◌≡◌, if◌then◌else◌};
-ghost use Rattle.port_timing.specs.Ticks.{run_out, low_speed, inhibit_of, holds_back};
+ghost use Rattle.port_timing.specs.Ticks.{run_out, low_speed, inhibit_at, holds_back};
 
-use crate::profile::{inhibit_of, low_speed, run_out};
+use crate::profile::{inhibit_at, low_speed, run_out};
 use crate::ticks::holds_back;
 use line_reader::Reader;
-use port_state::Outcome;
 
 // Break.
 pub fn break_is_over(timer: u32, reading: u32) -> bool
@@ -41,8 +40,8 @@ pub fn is_held_back(reader: Reader, reading: u32) -> bool
 }
 
 // The inhibit time, with a rate or without one.
-pub fn inhibit_is_over(outcome: Outcome, timer: u32, reading: u32) -> bool
-    ensures { result ≡ run_out (inhibit_of outcome) timer reading }
+pub fn inhibit_is_over(rate: Option<u8>, timer: u32, reading: u32) -> bool
+    ensures { result ≡ run_out (inhibit_at rate) timer reading }
 {
-    run_out(inhibit_of(outcome), timer, reading)
+    run_out(inhibit_at(rate), timer, reading)
 }
