@@ -10,7 +10,7 @@ use Rattle.port_state.specs.PlainRecords.{device_of, record_of}
 use Rattle.port_state.proofs.PlainRecordLaws.{comes_back}
 use Rattle.port_step.specs.Steps.{says_to, after_all}
 use Rattle.port_step.specs.Runs.{events_of}
-use Rattle.port_lent.specs.declared.lent.Told.{Told}
+use Rattle.port_lent.specs.Lent.{Told}
 use Rattle.port_lent.specs.LentDevice.{Served, answers_in, left_by, LentDevice}
 
 -- What a device says to a row of events, as numbers.

@@ -1,13 +1,14 @@
 -- What is told quickly is what is due: of an edge, of a tick, of a read.
-use Rattle.std.specs.Prelude.{if◌then◌else◌, Some, None, Ok, Err}
-use Prim.Native.Nat.{ℕ, ◌%◌, ◌^◌}
+use Rattle.std.specs.Bool.{then_some}
+use Rattle.std.specs.Prelude.{if◌then◌else◌, Option, Some, None, Ok, Err}
+use Prim.Native.Nat.{ℕ}
 use mathlib.Core.Path.{◌≡◌, refl, sym, ap, ap₂, ◌∙◌, subst}
-use mathlib.Core.Bool.{Bool, true, false, not, ◌&&◌, ◌||◌, and_comm, true≢false}
+use mathlib.Core.Bool.{Bool, true, false, not, ◌&&◌, ◌||◌, true≢false}
 use borrow.Author.Tests.{ne_eqb}
 use Rattle.answers.specs.Choices.{◌=?◌}
-use Rattle.answers.specs.Answers.{packed, nothing, register_value}
-use Rattle.page_word.specs.declared.thirds.Third.{Third}
-use Rattle.page_word.specs.Thirds.{third_of}
+use Rattle.answers.specs.Answers.{packed, nothing}
+use Rattle.answers.specs.Numbers.{refusal_of}
+use Rattle.page_resolve.specs.Resolving.{rate_and_role}
 use Rattle.line_mode.specs.declared.modes.LineMode.{LineMode}
 use Rattle.line_mode.specs.Modes.{lsm_mode}
 use Rattle.line_reader.specs.declared.endings.Broken.TheVariants.{Gap, Cut, Check}
@@ -20,22 +21,16 @@ use Rattle.port_state.specs.declared.State.TheVariants.{Off, Break, Ability, Ack
 use Rattle.port_state.specs.declared.Device.{Device}
 use Rattle.port_state.specs.declared.plain_record.PlainRecord.{PlainRecord}
 use Rattle.port_state.specs.declared.plain_record.ReaderNumbers.{ReaderNumbers}
-use Rattle.port_state.specs.Memory.{Due, due, Outcome, is_talking}
-use Rattle.port_state.specs.Rounds.{is_base}
+use Rattle.port_state.specs.Memory.{Due, due, is_talking}
 use Rattle.port_state.specs.Changes.{with_reader}
-use Rattle.port_state.specs.PlainRecords.{is_set, state_of, round_of, reader_of, reader_numbers, outcome_of, device_of}
+use Rattle.port_state.specs.PlainRecords.{is_set, state_of, reader_of, reader_numbers, outcome_of, device_of}
 use Rattle.port_state.proofs.PlainRecordLaws.{reader_back}
-use Rattle.port_registers.specs.declared.Bank.{Bank}
-use Rattle.port_registers.specs.declared.Register.TheVariants.{Part}
-use Rattle.port_registers.specs.Registers.{register_of, bank_of, read_due}
 use Rattle.port_hearing.specs.Edges.{hears, listened, edge_due}
 use Rattle.port_timing.specs.declared.profile.Profile.{Profile}
-use Rattle.port_timing.specs.Ticks.{run_out, low_speed, inhibit_of, holds_back, may_order, is_lost, orders, talks, tick_in, tick_due}
-use Rattle.port_step.specs.Steps.{step_over}
-use Rattle.port_step.specs.Runs.{event_of}
+use Rattle.port_timing.specs.Ticks.{run_out, low_speed, inhibit_at, inhibit_of, may_order, is_lost, orders, talks, tick_in, tick_due}
 use Rattle.port_lent.specs.declared.quick.Quick.{Quick}
 use Rattle.port_lent.specs.declared.quick.Quick.TheVariants.{Kept, Moved}
-use Rattle.port_lent.specs.Lent.{step_on_record, Tells}
+use Rattle.port_lent.specs.Lent.{Tells}
 use Rattle.port_lent.specs.Quickly.{with_reader_numbers, Fits, is_good}
 
 -- Without a good page the answer says all that is heard, and nothing but the reader changes.
@@ -49,18 +44,18 @@ no_page (Some (Err Check)) none reading d = refl
 
 -- A record with the numbers of another reader means the device with that reader.
 other_reader : (reader : Reader) (plain : PlainRecord)
-    → device_of (with_reader_numbers (reader_numbers reader).bits (reader_numbers reader).last (reader_numbers reader).position (reader_numbers reader).kind plain) ≡ with_reader reader (device_of plain)
+    → device_of (with_reader_numbers (reader_numbers reader) plain) ≡ with_reader reader (device_of plain)
 unfolding device_of
 other_reader reader plain = rw (reader_back reader) refl
 
 -- What a step of the reader brings without a good page.
 pub reader_moved : (step : Step) (answer : ℕ) (numbers : ReaderNumbers) → is_good step.heard ≡ false → answer ≡ packed (said_of_heard step.heard)
     → numbers ≡ reader_numbers step.reader → (plain : PlainRecord) (reading : ℕ)
-    → Tells (record { answer = answer; after = with_reader_numbers numbers.bits numbers.last numbers.position numbers.kind plain }) (listened step reading (device_of plain))
+    → Tells (record { answer = answer; after = with_reader_numbers numbers plain }) (listened step reading (device_of plain))
 reader_moved step answer numbers none said same plain reading =
     record {
       answer = said ∙ ap (λ (x : Due). packed x.says) (sym heard);
-      device = ap (λ (n : ReaderNumbers). device_of (with_reader_numbers n.bits n.last n.position n.kind plain)) same
+      device = ap (λ (n : ReaderNumbers). device_of (with_reader_numbers n plain)) same
           ∙ other_reader step.reader plain ∙ ap (λ (x : Due). x.device) (sym heard);
     }
   where
@@ -115,11 +110,22 @@ pub break_idle : (plain : PlainRecord) (reading draw : ℕ) → plain.state ≡ 
 unfolding tick_due device_of state_of
 break_idle plain reading draw is runs = rw is (rw runs refl)
 
-pub check_link_idle : (plain : PlainRecord) (reading draw : ℕ) (outcome : Outcome) → plain.state ≡ 5
-    → outcome ≡ outcome_of plain.outcome plain.ability (is_set plain.is_master) → run_out (inhibit_of outcome) plain.timer reading ≡ false
+-- The inhibit time by the numbers of an outcome.
+inhibit_by : (kind ability : ℕ) (master : Bool) → inhibit_of (outcome_of kind ability master) ≡ inhibit_at (then_some (kind =? 0x82) ability)
+unfolding outcome_of
+inhibit_by kind ability master = by (kind =? 0x82) (kind =? 0)
+  where
+    by : (settled none : Bool)
+        → inhibit_of (if settled then Some (rate_and_role ability master) else if none then None else Some (Err (refusal_of kind))) ≡ inhibit_at (then_some settled ability)
+    by true none = refl
+    by false true = refl
+    by false false = refl
+
+pub check_link_idle : (plain : PlainRecord) (reading draw : ℕ) (rate : Option ℕ) → plain.state ≡ 5
+    → rate ≡ then_some (plain.outcome =? 0x82) plain.ability → run_out (inhibit_at rate) plain.timer reading ≡ false
     → tick_due low_speed reading draw (device_of plain) ≡ due nothing (device_of plain)
 unfolding tick_due device_of state_of
-check_link_idle plain reading draw outcome is came runs = rw is (rw (sym came) (rw runs refl))
+check_link_idle plain reading draw rate is rated runs = rw is (rw (inhibit_by plain.outcome plain.ability (is_set plain.is_master)) (rw (sym rated) (rw runs refl)))
 
 -- A state that is neither.
 pub resting : (plain : PlainRecord) (reading draw : ℕ) → (plain.state ≡ 1 → ⊥) → (plain.state ≡ 5 → ⊥) → is_talking (state_of plain.state) ≡ false
@@ -133,27 +139,6 @@ pub talking : (plain : PlainRecord) (reading draw : ℕ) → is_talking (state_o
     → tick_due low_speed reading draw (device_of plain) ≡ due nothing (device_of plain)
 unfolding tick_due device_of
 talking plain reading draw trades idle = talking_idle (state_of plain.state) low_speed reading draw (device_of plain) trades idle
-
--- When a tick acts there, in the order in which the code asks.
-abbrev pub acts_by : (out base lost ready : Bool) → Bool
-acts_by out base lost ready = if out then false else if base then ready else if lost then true else ready
-
-in_order_law : (base out lost ran held : Bool) → ((not base && (not out && lost)) || (not out && (not held && ran))) ≡ acts_by out base lost (ran && not held)
-in_order_law true true lost ran held = refl
-in_order_law false true lost ran held = refl
-in_order_law true false lost ran held = and_comm (not held) ran
-in_order_law false false true ran held = refl
-in_order_law false false false ran held = and_comm (not held) ran
-
-pub asked_in_order : (plain : PlainRecord) (reading : ℕ)
-    → (is_lost low_speed reading (device_of plain).link || may_order low_speed reading (device_of plain).link)
-    ≡ acts_by (is_set plain.is_out) (is_base (round_of plain.round)) (run_out low_speed.lost plain.good reading)
-    (run_out (if (device_of plain).link.talk.heard then low_speed.silent else low_speed.wait) (device_of plain).link.talk.mark reading && not (holds_back low_speed.mode.quiet (device_of plain).link.reader reading))
-unfolding is_lost may_order device_of
-asked_in_order plain reading =
-    in_order_law (is_base (round_of plain.round)) (is_set plain.is_out) (run_out low_speed.lost plain.good reading)
-    (run_out (if (device_of plain).link.talk.heard then low_speed.silent else low_speed.wait) (device_of plain).link.talk.mark reading)
-    (holds_back low_speed.mode.quiet (device_of plain).link.reader reading)
 
 -- Where nothing is due, nothing is said and the record stays.
 pub nothing_due : (plain : PlainRecord) (d : Due) → d ≡ due nothing (device_of plain) → Fits (Kept 0) plain d
@@ -183,39 +168,10 @@ module _ (plain : PlainRecord) (reading : ℕ) (state : State) (out takes : Bool
   unfolding edge_due device_of
   edge_ignored left = nothing_due plain _ (rw (sym asked_of_record ∙ left) refl)
 
--- A read of a register of a bank, by its number.
-pub bank_read : (bank : Bank) (third : Third) (n : ℕ) (quick : Quick) (register : ℕ) (plain : PlainRecord) → register ≡ n
-    → quick ≡ Kept (packed (register_value (third_of third (bank_of bank (device_of plain))))) → register_of n ≡ Some (Part bank third) → Fits quick plain (read_due register (device_of plain))
-unfolding read_due
-bank_read bank third n quick register plain is told named =
-    rw is (rw told (rw named (record { shown = record { answer = refl; device = refl } })))
-
--- Whether it acts, by what the code has asked.
-pub acts_in_order : (plain : PlainRecord) (reading : ℕ) (acts out base lost ready : Bool) → is_set plain.is_out ≡ out → is_base (round_of plain.round) ≡ base
-    → run_out low_speed.lost plain.good reading ≡ lost
-    → (run_out (if (device_of plain).link.talk.heard then low_speed.silent else low_speed.wait) (device_of plain).link.talk.mark reading && not (holds_back low_speed.mode.quiet (device_of plain).link.reader reading)) ≡ ready
-    → acts ≡ acts_by out base lost ready → acts ≡ (is_lost low_speed reading (device_of plain).link || may_order low_speed reading (device_of plain).link)
-acts_in_order plain reading acts out base lost ready sends first silent due-now asked =
-    asked ∙ sym (asked_in_order plain reading ∙ rw sends (rw first (rw silent (rw due-now refl))))
-
--- The event of a kind's number.
-module _ (quick : Quick) (plain : PlainRecord) (kind clock argument : ℕ) where
-  pub of_edge : kind ≡ 0 → Fits quick plain (edge_due lsm_mode (clock % 2 ^ 32) (device_of plain)) → Fits quick plain (step_on_record kind clock argument plain)
-  unfolding event_of step_over
-  of_edge is fits = rw is fits
-
-  pub of_tick : kind ≡ 1 → Fits quick plain (tick_due low_speed (clock % 2 ^ 32) argument (device_of plain)) → Fits quick plain (step_on_record kind clock argument plain)
-  unfolding event_of step_over
-  of_tick is fits = rw is fits
-
-  pub of_read : kind ≡ 4 → Fits quick plain (read_due argument (device_of plain)) → Fits quick plain (step_on_record kind clock argument plain)
-  unfolding event_of step_over
-  of_read is fits = rw is fits
-
 -- What a match has found of what is told quickly.
 pub kept_tells : (quick : Quick) (answer : ℕ) (plain : PlainRecord) (d : Due) → quick ≡ Kept answer → Fits quick plain d → Tells (record { answer = answer; after = plain }) d
 kept_tells quick answer plain d is fits = (subst (λ (q : Quick). Fits q plain d) is fits).shown
 
-pub moved_tells : (quick : Quick) (answer bits last position reader : ℕ) (plain : PlainRecord) (d : Due) → quick ≡ Moved answer bits last position reader → Fits quick plain d
-    → Tells (record { answer = answer; after = with_reader_numbers bits last position reader plain }) d
-moved_tells quick answer bits last position reader plain d is fits = (subst (λ (q : Quick). Fits q plain d) is fits).shown
+pub moved_tells : (quick : Quick) (answer : ℕ) (reader : ReaderNumbers) (plain : PlainRecord) (d : Due) → quick ≡ Moved answer reader → Fits quick plain d
+    → Tells (record { answer = answer; after = with_reader_numbers reader plain }) d
+moved_tells quick answer reader plain d is fits = (subst (λ (q : Quick). Fits q plain d) is fits).shown

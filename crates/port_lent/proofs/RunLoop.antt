@@ -54,22 +54,21 @@ abbrev pub still_to : List ℕ → Device → ℕ → List ℕ
 still_to cells device place = map packed (says_to device (events_of (drop place cells)))
 
 -- What holds whenever the loop's test is reached: so many events are taken.
-pub record Running (cells before list : List ℕ) (plain : PlainRecord) (taken place : ℕ) : Type 0 where
+pub record Running (cells before list : List ℕ) (plain : PlainRecord) (taken : ℕ) : Type 0 where
   pub done : List ℕ
   pub long : length done ≡ taken
-  pub thrice : place ≡ 3 * taken
   pub most : 3 * taken ≤ length cells
   pub contents : list ≡ done ++ drop taken before
-  pub whole : answers_to cells ≡ done ++ still_to cells (device_of plain) place
+  pub whole : answers_to cells ≡ done ++ still_to cells (device_of plain) (3 * taken)
 
-pub start : (cells before : List ℕ) (plain : PlainRecord) → plain ≡ record_of fresh_device → Running cells before before plain 0 0
+pub start : (cells before : List ℕ) (plain : PlainRecord) → plain ≡ record_of fresh_device → Running cells before before plain 0
 start cells before plain fresh =
-    record { done = []; long = refl; thrice = refl; most = omega arith; contents = refl; whole = ap (λ (d : Device). map packed (says_to d (events_of cells))) (sym (ap device_of fresh ∙ comes_back fresh_device)) }
+    record { done = []; long = refl; most = omega arith; contents = refl; whole = ap (λ (d : Device). map packed (says_to d (events_of cells))) (sym (ap device_of fresh ∙ comes_back fresh_device)) }
 
 -- The list keeps its length.
-pub same_long : (cells before list : List ℕ) (plain : PlainRecord) (taken place : ℕ) → Running cells before list plain taken place
+pub same_long : (cells before list : List ℕ) (plain : PlainRecord) (taken : ℕ) → Running cells before list plain taken
     → length (events_of cells) ≤ length before → length list ≡ length before
-same_long cells before list plain taken place g enough =
+same_long cells before list plain taken g enough =
     let n = count_events cells in
     let all = ap length g.contents ∙ length-append g.done (drop taken before) in
     let d = length-drop taken before in
@@ -80,23 +79,25 @@ same_long cells before list plain taken place g enough =
 abbrev pub due_at : PlainRecord → EventNumbers → Due
 due_at plain event = step_on_record event.kind event.clock event.argument plain
 
-module _ (cells before list : List ℕ) (plain : PlainRecord) (taken place : ℕ) (g : Running cells before list plain taken place) (h : taken < length cells / 3)
+module _ (cells before list : List ℕ) (plain : PlainRecord) (taken : ℕ) (g : Running cells before list plain taken) (h : taken < length cells / 3)
   where
     -- What is due at the event that the loop takes next.
     abbrev due_next : Due
-    due_next = due_at plain (numbers_at cells place)
+    due_next = due_at plain (numbers_at cells (3 * taken))
 
-    pub inside : place + 3 ≤ length cells
-    inside = let t = g.thrice in omega arith
+    pub inside : 3 * taken + 3 ≤ length cells
+    inside = omega arith
 
-    next_answers : still_to cells (device_of plain) place ≡ packed due_next.says ∷ still_to cells due_next.device (place + 3)
+    next_answers : still_to cells (device_of plain) (3 * taken) ≡ packed due_next.says ∷ still_to cells due_next.device (3 * (taken + 1))
     unfolding events_of says_to
-    next_answers = ap (λ (l : List ℕ). map packed (says_to (device_of plain) (events_of l))) (three_cells cells place inside)
+    next_answers =
+        ap (λ (l : List ℕ). map packed (says_to (device_of plain) (events_of l))) (three_cells cells (3 * taken) inside)
+        ∙ ap (λ (n : ℕ). packed due_next.says ∷ still_to cells due_next.device n) (let e : 3 * taken + 3 ≡ 3 * (taken + 1) = omega arith in e)
 
-    pub turn : (event : EventNumbers) (answer : ℕ) (after : PlainRecord) → event ≡ numbers_at cells place → Tells (record { answer = answer; after = after }) (due_at plain event) → length (events_of cells) ≤ length before
-        → Running cells before (set list taken answer) after (taken + 1) (place + 3)
+    pub turn : (event : EventNumbers) (answer : ℕ) (after : PlainRecord) → event ≡ numbers_at cells (3 * taken) → Tells (record { answer = answer; after = after }) (due_at plain event) → length (events_of cells) ≤ length before
+        → Running cells before (set list taken answer) after (taken + 1)
     turn event answer after next came enough =
-        record { done = g.done ++ (answer ∷ []); long = longer; thrice = (let t = g.thrice in omega arith); most = (let m = g.most in omega arith); contents = contents_more; whole = whole_more }
+        record { done = g.done ++ (answer ∷ []); long = longer; most = (let m = g.most in omega arith); contents = contents_more; whole = whole_more }
       where
         told : Tells (record { answer = answer; after = after }) due_next
         told = subst (λ (e : EventNumbers). Tells (record { answer = answer; after = after }) (due_at plain e)) next came
@@ -114,24 +115,24 @@ module _ (cells before list : List ℕ) (plain : PlainRecord) (taken place : ℕ
             ∙ ap (λ (n : ℕ). g.done ++ (answer ∷ drop n before)) (sym (add-one taken))
             ∙ sym (append_assoc g.done (answer ∷ []) (drop (taken + 1) before))
 
-        whole_more : answers_to cells ≡ (g.done ++ (answer ∷ [])) ++ still_to cells (device_of after) (place + 3)
+        whole_more : answers_to cells ≡ (g.done ++ (answer ∷ [])) ++ still_to cells (device_of after) (3 * (taken + 1))
         whole_more =
             g.whole
             ∙ ap (λ (l : List ℕ). g.done ++ l) next_answers
-            ∙ ap₂ (λ (x : ℕ) (d : Device). g.done ++ (x ∷ still_to cells d (place + 3))) (sym told.answer) (sym told.device)
-            ∙ sym (append_assoc g.done (answer ∷ []) (still_to cells (device_of after) (place + 3)))
+            ∙ ap₂ (λ (x : ℕ) (d : Device). g.done ++ (x ∷ still_to cells d (3 * (taken + 1)))) (sym told.answer) (sym told.device)
+            ∙ sym (append_assoc g.done (answer ∷ []) (still_to cells (device_of after) (3 * (taken + 1))))
 
 -- After all events the list has all answers.
-pub finish : (cells before list : List ℕ) (plain : PlainRecord) (taken place : ℕ) → Running cells before list plain taken place → length cells / 3 ≤ taken
+pub finish : (cells before list : List ℕ) (plain : PlainRecord) (taken : ℕ) → Running cells before list plain taken → length cells / 3 ≤ taken
     → list ≡ put_at 0 (answers_to cells) before
 unfolding says_to
-finish cells before list plain taken place g h =
+finish cells before list plain taken g h =
     g.contents
     ∙ ap₂ (λ (l : List ℕ) (n : ℕ). l ++ drop n before) (sym all_done) (sym g.long ∙ ap length (sym all_done))
     ∙ sym (put_at_start (answers_to cells) before)
   where
-    none_left : events_of (drop place cells) ≡ []
-    none_left = no_event (drop place cells) (let d = length-drop place cells in let t = g.thrice in omega arith)
+    none_left : events_of (drop (3 * taken) cells) ≡ []
+    none_left = no_event (drop (3 * taken) cells) (let d = length-drop (3 * taken) cells in omega arith)
 
     all_done : answers_to cells ≡ g.done
     all_done = g.whole ∙ ap (λ (events : List Event). g.done ++ map packed (says_to (device_of plain) events)) none_left ∙ append-nil g.done

@@ -8,8 +8,7 @@ use Rattle.port_state.specs.Memory.{fresh_device}
 use Rattle.port_state.specs.PlainRecords.{device_of, record_of}
 use Rattle.port_step.specs.Steps.{says_to, after_all}
 use Rattle.port_step.specs.Runs.{events_of, answers_to}
-use Rattle.port_lent.specs.declared.lent.Told.{Told}
-use Rattle.port_lent.specs.Lent.{step_on_record, Tells}
+use Rattle.port_lent.specs.Lent.{Told, step_on_record, Tells}
 
 -- That this is what calls on one record have told, in order: one call for each event of a row, three cells each, and each told as the contract of `maststep_step` has it of the record
 -- that the call before has left. Cells after the last whole event make no call; with one told too few or too many it does not hold.

@@ -3,6 +3,7 @@
 use Rattle.line_reader.specs.Endings.{Heard}
 use Rattle.std.specs.Prelude.{ℕ, ◌+◌, Bool, true, false, List, get_or, Some, None, Ok, Err}
 use Rattle.port_state.specs.declared.plain_record.PlainRecord.{PlainRecord}
+use Rattle.port_state.specs.declared.plain_record.ReaderNumbers.{ReaderNumbers}
 use Rattle.port_state.specs.Memory.{Due}
 use Rattle.port_lent.specs.declared.quick.Quick.{Quick}
 use Rattle.port_lent.specs.declared.quick.Quick.TheVariants.{Slow, Kept, Moved}
@@ -10,8 +11,8 @@ use Rattle.port_lent.specs.declared.runs.EventNumbers.{EventNumbers}
 use Rattle.port_lent.specs.Lent.{Tells}
 
 -- The record with the numbers of another reader.
-abbrev pub with_reader_numbers : (bits last position reader : ℕ) → PlainRecord → PlainRecord
-with_reader_numbers bits last position reader r =
+abbrev pub with_reader_numbers : ReaderNumbers → PlainRecord → PlainRecord
+with_reader_numbers reader r =
     record {
       advertised = r.advertised;
       partner = r.partner;
@@ -21,10 +22,10 @@ with_reader_numbers bits last position reader r =
       held_base = r.held_base;
       own_next = r.own_next;
       held_next = r.held_next;
-      bits = bits;
-      last = last;
-      position = position;
-      reader = reader;
+      bits = reader.bits;
+      last = reader.last;
+      position = reader.position;
+      reader = reader.kind;
       mark = r.mark;
       timer = r.timer;
       good = r.good;
@@ -46,8 +47,8 @@ with_reader_numbers bits last position reader r =
 abbrev pub tells_quickly : Quick → PlainRecord → Due → Type 0
 tells_quickly Slow plain d = Unit {0}
 tells_quickly (Kept answer) plain d = Tells (record { answer = answer; after = plain }) d
-tells_quickly (Moved answer bits last position reader) plain d =
-    Tells (record { answer = answer; after = with_reader_numbers bits last position reader plain }) d
+tells_quickly (Moved answer reader) plain d =
+    Tells (record { answer = answer; after = with_reader_numbers reader plain }) d
 
 -- That what is told quickly is what is due.
 pub record Fits (quick : Quick) (plain : PlainRecord) (d : Due) : Type 0 where

@@ -18,7 +18,7 @@ use line_mode::LineMode;
 use line_reader::{Heard, Reader, Step, answer_to_heard, drop_on, go_on, open_on};
 use page_word::{Third, third_of};
 use port_hearing::takes_edges;
-use port_state::{Outcome, PlainRecord, ReaderNumbers, Round, State, is_base, is_set};
+use port_state::{PlainRecord, ReaderNumbers, Round, SETTLED, State, is_base, is_set};
 use port_timing::{break_is_over, inhibit_is_over, is_held_back, mark_has_run, partner_is_lost};
 
 // What an event brings: something that is not told here; this answer, and the record as it was; this answer, and the reader's numbers.
@@ -26,13 +26,7 @@ use port_timing::{break_is_over, inhibit_is_over, is_held_back, mark_has_run, pa
 pub enum Quick {
     Slow,
     Kept(u64),
-    Moved {
-        answer: u64,
-        bits: u64,
-        last: u32,
-        position: u32,
-        reader: u8,
-    },
+    Moved { answer: u64, reader: ReaderNumbers },
 }
 
 // Whether an edge has ended a good page, which more than the reader may change by.
@@ -46,57 +40,47 @@ fn is_good(heard: Heard) -> bool
 fn moved(step: Step) -> Quick
     ensures { (plain : PlainRecord) (reading : ℕ) → Fits result plain (listened step reading (device_of plain)) }
 {
-    let heard = step.heard;
-    let reader = step.reader;
-    if is_good(heard) {
+    if is_good(step.heard) {
         return Quick::Slow;
     }
-    let numbers = ReaderNumbers::from(reader);
     Quick::Moved {
-        answer: answer_to_heard(heard).packed(),
-        bits: numbers.bits,
-        last: numbers.last,
-        position: numbers.position,
-        reader: numbers.kind,
+        answer: answer_to_heard(step.heard).packed(),
+        reader: ReaderNumbers::from(step.reader),
     }
 }
 
 // Whether a page is due, if none is out. Few ticks find the mark old enough, so the reader is looked at last.
 #[tactic(auto, unfolding(port_state::specs::PlainRecords::device_of))]
-fn page_is_due(plain: PlainRecord, reading: u32) -> bool
-    ensures { result ≡ (run_out (if (device_of plain).link.talk.heard then low_speed.silent else low_speed.wait) (device_of plain).link.talk.mark reading && not (holds_back low_speed.mode.quiet (device_of plain).link.reader reading)) }
+fn page_is_due(plain: &PlainRecord, reading: u32) -> bool
+    ensures { result ≡ (run_out (if (device_of plain.now).link.talk.heard then low_speed.silent else low_speed.wait) (device_of plain.now).link.talk.mark reading && not (holds_back low_speed.mode.quiet (device_of plain.now).link.reader reading)) }
 {
-    if mark_has_run(is_set(plain.is_heard), plain.mark, reading) {
-        let reader = Reader::from(plain);
-        return !is_held_back(reader, reading);
-    }
-    false
+    mark_has_run(is_set(plain.is_heard), plain.mark, reading)
+        && !is_held_back(Reader::from(*plain), reading)
 }
 
 // Whether a tick gives the link up or orders a page, where pages are traded.
-fn talk_acts(plain: PlainRecord, reading: u32) -> bool
-    ensures { result ≡ (is_lost low_speed reading (device_of plain).link || may_order low_speed reading (device_of plain).link) }
+#[tactic(auto, unfolding(port_state::specs::PlainRecords::device_of, port_timing::specs::Ticks::is_lost, port_timing::specs::Ticks::may_order))]
+fn talk_acts(plain: &PlainRecord, reading: u32) -> bool
+    ensures { result ≡ (is_lost low_speed reading (device_of plain.now).link || may_order low_speed reading (device_of plain.now).link) }
 {
     if is_set(plain.is_out) {
         return false;
     }
-    if is_base(Round::from(plain.round)) {
-        return page_is_due(plain, reading);
-    }
-    if partner_is_lost(plain.good, reading) {
-        return true;
-    }
-    page_is_due(plain, reading)
+    let is_lost = !is_base(Round::from(plain.round)) && partner_is_lost(plain.good, reading);
+    is_lost || page_is_due(plain, reading)
 }
 
 // Whether a tick finds the timer of Break or of Check-link out.
-fn timer_acts(plain: PlainRecord, reading: u32) -> bool
-    ensures { is_talking (state_of plain.state) ≡ false → result ≡ false → (draw : ℕ) → tick_due low_speed reading draw (device_of plain) ≡ due nothing (device_of plain) }
+fn timer_acts(plain: &PlainRecord, reading: u32) -> bool
+    ensures { is_talking (state_of plain.now.state) ≡ false → result ≡ false → (draw : ℕ) → tick_due low_speed reading draw (device_of plain.now) ≡ due nothing (device_of plain.now) }
 {
-    let state = plain.state;
-    match state {
+    match plain.state {
         1 => break_is_over(plain.timer, reading),
-        5 => inhibit_is_over(Outcome::from(plain), plain.timer, reading),
+        5 => inhibit_is_over(
+            (plain.outcome == SETTLED).then_some(plain.ability),
+            plain.timer,
+            reading,
+        ),
         _ => false,
     }
 }
@@ -109,8 +93,8 @@ fn is_talking(state: State) -> bool
 }
 
 // Whether a tick does anything.
-fn tick_acts(plain: PlainRecord, reading: u32) -> bool
-    ensures { result ≡ false → (draw : ℕ) → tick_due low_speed reading draw (device_of plain) ≡ due nothing (device_of plain) }
+fn tick_acts(plain: &PlainRecord, reading: u32) -> bool
+    ensures { result ≡ false → (draw : ℕ) → tick_due low_speed reading draw (device_of plain.now) ≡ due nothing (device_of plain.now) }
 {
     if is_talking(State::from(plain.state)) {
         return talk_acts(plain, reading);
@@ -119,8 +103,8 @@ fn tick_acts(plain: PlainRecord, reading: u32) -> bool
 }
 
 // A tick.
-fn quick_tick(plain: PlainRecord, reading: u32) -> Quick
-    ensures { (draw : ℕ) → Fits result plain (tick_due low_speed reading draw (device_of plain)) }
+fn quick_tick(plain: &PlainRecord, reading: u32) -> Quick
+    ensures { (draw : ℕ) → Fits result plain.now (tick_due low_speed reading draw (device_of plain.now)) }
 {
     if tick_acts(plain, reading) {
         return Quick::Slow;
@@ -137,8 +121,8 @@ fn value(word: u64, third: Third) -> Quick
 
 // A read of a register of a bank.
 #[tactic(auto, unfolding(port_registers::specs::Registers::register_of, port_registers::specs::Registers::read_due, port_state::specs::PlainRecords::device_of))]
-fn quick_read(plain: PlainRecord, register: u64) -> Quick
-    ensures { Fits result plain (read_due register (device_of plain)) }
+fn quick_read(plain: &PlainRecord, register: u64) -> Quick
+    ensures { Fits result plain.now (read_due register (device_of plain.now)) }
 {
     match register {
         514 => value(plain.advertised, Third::Low),
@@ -157,81 +141,41 @@ fn quick_read(plain: PlainRecord, register: u64) -> Quick
     }
 }
 
-// An edge of a call of `step_record`.
-fn quick_edge(plain: PlainRecord, reading: u32) -> Quick
-    ensures { Fits result plain (edge_due lsm_mode reading (device_of plain)) }
+// An edge.
+fn quick_edge<const IN_RUN: bool>(plain: &PlainRecord, reading: u32) -> Quick
+    ensures { Fits result plain.now (edge_due lsm_mode reading (device_of plain.now)) }
 {
-    if takes_edges(State::from(plain.state), is_set(plain.is_out)) {
-        if 155 <= plain.position {
-            return Quick::Slow;
-        }
-        return match Reader::from(plain) {
-            Reader::Fresh => moved(open_on(reading)),
-            Reader::Open { at, last, bits } => moved(go_on(
-                LineMode::lsm(),
-                at,
-                last,
-                bits,
-                reading,
-            )),
-            Reader::Dropping { last } => moved(drop_on(LineMode::lsm(), last, reading)),
-        };
+    if !takes_edges(State::from(plain.state), is_set(plain.is_out)) {
+        return Quick::Kept(0);
     }
-    Quick::Kept(0)
+    if 155 <= plain.position {
+        return Quick::Slow;
+    }
+    match Reader::from(*plain) {
+        Reader::Fresh => moved(open_on(reading)),
+        Reader::Open { at, last, bits } => {
+            moved(go_on(LineMode::lsm(), at, last, bits, reading))
+        }
+        Reader::Dropping { last } => moved(drop_on(LineMode::lsm(), last, reading)),
+    }
 }
 
-// An event that is lent a record.
-pub(crate) fn quick_of(plain: PlainRecord, kind: u64, clock: u64, argument: u64) -> Quick
-    ensures { Fits result plain (step_on_record kind clock argument plain) }
+// An event. IN_RUN says which of two callers this is for, a run or a call for one event, so that each has a copy of its own: the compiler lays a function with one caller into
+// it. (One copy for both costs 48 instructions a tick and 39 a read of a run in place of 30 and 24, past the limits of bench/run.)
+#[tactic(auto, unfolding(port_step::specs::Runs::event_of, port_step::specs::Steps::step_over))]
+pub(crate) fn quick_of<const IN_RUN: bool>(
+    plain: &PlainRecord,
+    kind: u64,
+    clock: u64,
+    argument: u64,
+) -> Quick
+    ensures { Fits result plain.now (step_on_record kind clock argument plain.now) }
 {
     let reading = (clock % 4294967296) as u32;
-    if kind == 0 {
-        return quick_edge(plain, reading);
+    match kind {
+        0 => quick_edge::<IN_RUN>(plain, reading),
+        1 => quick_tick(plain, reading),
+        4 => quick_read(plain, argument),
+        _ => Quick::Slow,
     }
-    if kind == 1 {
-        return quick_tick(plain, reading);
-    }
-    if kind == 4 {
-        return quick_read(plain, argument);
-    }
-    Quick::Slow
-}
-
-fn quick_edge_in_run(plain: PlainRecord, reading: u32) -> Quick
-    ensures { Fits result plain (edge_due lsm_mode reading (device_of plain)) }
-{
-    if takes_edges(State::from(plain.state), is_set(plain.is_out)) {
-        if 155 <= plain.position {
-            return Quick::Slow;
-        }
-        return match Reader::from(plain) {
-            Reader::Fresh => moved(open_on(reading)),
-            Reader::Open { at, last, bits } => moved(go_on(
-                LineMode::lsm(),
-                at,
-                last,
-                bits,
-                reading,
-            )),
-            Reader::Dropping { last } => moved(drop_on(LineMode::lsm(), last, reading)),
-        };
-    }
-    Quick::Kept(0)
-}
-
-// An event of a run.
-pub(crate) fn quick_in_run(plain: PlainRecord, kind: u64, clock: u64, argument: u64) -> Quick
-    ensures { Fits result plain (step_on_record kind clock argument plain) }
-{
-    let reading = (clock % 4294967296) as u32;
-    if kind == 0 {
-        return quick_edge_in_run(plain, reading);
-    }
-    if kind == 1 {
-        return quick_tick(plain, reading);
-    }
-    if kind == 4 {
-        return quick_read(plain, argument);
-    }
-    Quick::Slow
 }

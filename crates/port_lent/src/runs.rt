@@ -4,8 +4,7 @@ ghost use Rattle.answers.specs.Answers.{said_count, put_at};
 ghost use Rattle.port_step.specs.Runs.{events_of, answers_to, run_of};
 ghost use Rattle.port_lent.specs.Quickly.{numbers_at};
 
-use crate::lent::{fresh_record, told_by};
-use crate::quick::{Quick, quick_in_run};
+use crate::lent::{fresh_record, take_event};
 use answers::Refusal;
 
 // An event as numbers.
@@ -33,38 +32,10 @@ fn answer_all(events: &[u64], answers: &mut [u64])
     requires { length (events_of events.now) ≤ length answers.old }
     ensures { answers.new ≡ put_at 0 (answers_to events.now) answers.old }
 {
-    let count = events.len() / 3;
     let mut plain = fresh_record();
-    let mut taken: usize = 0;
-    let mut place: usize = 0;
-    while taken < count {
-        let entry = taken;
-        let event = numbers_at(events, place);
-        taken += 1;
-        place += 3;
-        match quick_in_run(plain, event.kind, event.clock, event.argument) {
-            Quick::Slow => {
-                let told = told_by(plain, event.clock, event.argument, event.kind);
-                plain = told.after;
-                answers[entry] = told.answer;
-            }
-            Quick::Kept(answer) => {
-                answers[entry] = answer;
-            }
-            Quick::Moved {
-                answer,
-                bits,
-                last,
-                position,
-                reader,
-            } => {
-                plain.bits = bits;
-                plain.last = last;
-                plain.position = position;
-                plain.reader = reader;
-                answers[entry] = answer;
-            }
-        }
+    for taken in 0..events.len() / 3 {
+        let event = numbers_at(events, 3 * taken);
+        answers[taken] = take_event::<true>(&mut plain, event.kind, event.clock, event.argument);
     }
 }
 

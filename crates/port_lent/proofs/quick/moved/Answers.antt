@@ -6,5 +6,5 @@ use Rattle.port_lent.proofs.quick.moved.Goals as goal
 pub returns : goal.returns
 returns c plain reading =
     record {
-      shown = reader_moved _ _ _ (sym c.is_good.ensures ∙ c.if-is_good.false) (c.packed.ensures ∙ ap packed c.answer_to_heard.ensures) c.from-numbers.ensures plain reading;
+      shown = reader_moved _ _ _ (sym c.is_good.ensures ∙ c.if-is_good.false) (c.packed.ensures ∙ ap packed c.answer_to_heard.ensures) c.from.ensures plain reading;
     }

@@ -4,24 +4,24 @@ use Rattle.line_reader.specs.Reading.{edge_of}
 use Rattle.port_lent.proofs.QuickLaws.{steps_by, edge_taken, edge_ignored}
 use Rattle.port_lent.proofs.quick.quick_edge.Goals as goal
 
+pub returns-then-not-takes_edges : goal.returns-then-not-takes_edges
+returns-then-not-takes_edges g c = edge_ignored _ _ _ _ _ c.from.ensures c.is_set.ensures c.takes_edges.ensures c.if-not-takes_edges.true
+
 pub returns-in-Fresh : goal.returns-in-Fresh
 unfolding edge_of
-returns-in-Fresh c =
-    edge_taken _ _ _ _ _ c.from.ensures c.is_set.ensures c.takes_edges.ensures _ _ _ c.if-takes_edges.true c.from-then-takes_edges.ensures
+returns-in-Fresh g c =
+    edge_taken _ _ _ _ _ c.from.ensures c.is_set.ensures c.takes_edges.ensures _ _ _ c.if-not-takes_edges.false c.from-2.ensures
     (steps_by _ _ lsm_mode _ _ c.in-Fresh.is refl c.open_on.ensures)
     (c.moved.ensures _ _)
 
 pub returns-in-Open : goal.returns-in-Open
-returns-in-Open c =
-    edge_taken _ _ _ _ _ c.from.ensures c.is_set.ensures c.takes_edges.ensures _ _ _ c.if-takes_edges.true c.from-then-takes_edges.ensures
+returns-in-Open g c =
+    edge_taken _ _ _ _ _ c.from.ensures c.is_set.ensures c.takes_edges.ensures _ _ _ c.if-not-takes_edges.false c.from-2.ensures
     (steps_by _ _ _ _ _ c.in-Open.is c.lsm.ensures c.go_on.ensures)
     (c.moved-in-Open.ensures _ _)
 
 pub returns-in-Dropping : goal.returns-in-Dropping
-returns-in-Dropping c =
-    edge_taken _ _ _ _ _ c.from.ensures c.is_set.ensures c.takes_edges.ensures _ _ _ c.if-takes_edges.true c.from-then-takes_edges.ensures
+returns-in-Dropping g c =
+    edge_taken _ _ _ _ _ c.from.ensures c.is_set.ensures c.takes_edges.ensures _ _ _ c.if-not-takes_edges.false c.from-2.ensures
     (steps_by _ _ _ _ _ c.in-Dropping.is c.lsm-in-Dropping.ensures c.drop_on.ensures)
     (c.moved-in-Dropping.ensures _ _)
-
-pub returns : goal.returns
-returns c = edge_ignored _ _ _ _ _ c.from.ensures c.is_set.ensures c.takes_edges.ensures c.if-takes_edges.false
