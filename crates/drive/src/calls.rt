@@ -1,6 +1,7 @@
 // The calls, and what each is answered with.
 use crate::cells::{mode_of, reading_of};
 use crate::lists::{edges, messages, one, parity_finish, parity_take, read, run, write};
+use answers::Answer;
 use line_mode::{answer_to_judging, judge};
 use page_resolve::{answer_to, resolve};
 use std::alloc::{AllocError, Global};
@@ -11,7 +12,10 @@ const STATE_ENTRIES: usize = 45;
 // The answer cells of one call. An unknown operation has none, and neither has one with too few arguments.
 fn answer_one(alloc: Global, operation: u64, arguments: &[u64]) -> Result<Vec<u64>, AllocError> {
     match (operation, arguments) {
-        (1, [word, ..]) => one(alloc, page_check_bits::check(*word)),
+        (1, [word, ..]) => {
+            let bits = page_check_bits::check(*word).map(|bits| bits as usize);
+            one(alloc, Answer::from(bits))
+        }
         (2, [mode, gap, ..]) => one(
             alloc,
             answer_to_judging(judge(mode_of(*mode), reading_of(*gap))),

@@ -25,7 +25,8 @@ use port_state::PlainRecord;
 pub extern "C" fn maststep_check(word: u64) -> u64
     ensures { result ≡ packed (checked word) }
 {
-    page_check_bits::check(word).packed()
+    let bits = page_check_bits::check(word).map(|bits| bits as usize);
+    Answer::from(bits).packed()
 }
 
 // What two words settle on, ability and role, or 13, 4, 5, 8, 9.

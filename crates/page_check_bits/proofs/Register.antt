@@ -59,34 +59,33 @@ step_high (false ∷ y) h l = absurd (let n : length y ≡ 16 = omega arith in l
 step_high (true ∷ y) h l =
     ap numeral (plus_comm binary_sums lower y) ∙ sym (zero-add (numeral (plus binary y lower))) ∙ numeral_plus (true ∷ y) generator h
 
--- What holds whenever the loop's test is reached: i bits of the word have entered.
-pub record Going (count word register rest i : ℕ) : Type 0 where
-  pub most : i ≤ count
-  pub left : rest ≡ word / 2 ^ i
-  pub held : register ≡ numeral (remainder (bits_of i word))
+-- What holds whenever the loop's next turn is due: the bits of the word below a place have entered.
+pub record Going (word register rest place : ℕ) : Type 0 where
+  pub left : rest ≡ word / 2 ^ place
+  pub held : register ≡ numeral (remainder (bits_of place word))
 
-pub start : (count word : ℕ) → Going count word 0 word 0
+pub start : (word : ℕ) → Going word 0 word 0
 unfolding remainder
-start count word = record { most = omega arith; left = sym (div-one word); held = refl }
+start word = record { left = sym (div-one word); held = refl }
 
 -- The register with one more bit of the word, before the divisor is taken away.
-abbrev shifted : ℕ → ℕ → ℕ
+abbrev shifted : (register rest : ℕ) → ℕ
 shifted register rest = bit_xor (register * 2 ^ 1 % 2 ^ 32) (rest % 2 * 2 ^ 16 % 2 ^ 32)
 
-module _ (count word register rest i : ℕ) (g : Going count word register rest i) (h : i < count) where
-  halved : rest / 2 ≡ word / 2 ^ (i + 1)
-  halved = ap (λ (x : ℕ). x / 2) g.left ∙ shr-shr word i 1
+module _ (word register rest place : ℕ) (g : Going word register rest place) where
+  halved : rest / 2 ≡ word / 2 ^ (place + 1)
+  halved = ap (λ (x : ℕ). x / 2) g.left ∙ shr-shr word place 1
 
   seventeen : List Bool
-  seventeen = plus binary (remainder (bits_of i word)) (odd (word / 2 ^ i) ∷ replicate 16 false)
+  seventeen = plus binary (remainder (bits_of place word)) (odd (word / 2 ^ place) ∷ replicate 16 false)
 
   seventeen_long : length seventeen ≡ 17
   unfolding seventeen
   seventeen_long =
-      plus_length binary (remainder (bits_of i word)) (odd (word / 2 ^ i) ∷ replicate 16 false) (omega (arith, remainder_length (bits_of i word)))
+      plus_length binary (remainder (bits_of place word)) (odd (word / 2 ^ place) ∷ replicate 16 false) (omega (arith, remainder_length (bits_of place word)))
 
   small : register < 65536
-  small = rw g.held (subst (λ (n : ℕ). numeral (remainder (bits_of i word)) < 2 ^ n) (remainder_length (bits_of i word)) (below (remainder (bits_of i word))))
+  small = rw g.held (subst (λ (n : ℕ). numeral (remainder (bits_of place word)) < 2 ^ n) (remainder_length (bits_of place word)) (below (remainder (bits_of place word))))
 
   register_doubled : register * 2 ^ 1 % 2 ^ 32 ≡ register * 2
   register_doubled = let s = small in omega arith
@@ -99,28 +98,23 @@ module _ (count word register rest i : ℕ) (g : Going count word register rest 
   is_shifted =
       ap₂ bit_xor register_doubled raised
       ∙ ap₂ (λ (a b : ℕ). bit_xor (a * 2) (b * 65536)) g.held (sym (odd_bit rest) ∙ ap (λ (x : ℕ). bit (odd x)) g.left)
-      ∙ sym (entered (remainder (bits_of i word)) (odd (word / 2 ^ i)) (remainder_length (bits_of i word)))
+      ∙ sym (entered (remainder (bits_of place word)) (odd (word / 2 ^ place)) (remainder_length (bits_of place word)))
 
-  stepped : divided binary generator 1 seventeen ≡ remainder (bits_of (i + 1) word)
+  stepped : divided binary generator 1 seventeen ≡ remainder (bits_of (place + 1) word)
   unfolding seventeen
   stepped =
-      sym (one_more (bits_of i word) (odd (word / 2 ^ i)))
-      ∙ ap remainder (sym (bits_more i word) ∙ ap (λ (n : ℕ). bits_of n word) (sym (add-one i)))
+      sym (one_more (bits_of place word) (odd (word / 2 ^ place)))
+      ∙ ap remainder (sym (bits_more place word) ∙ ap (λ (n : ℕ). bits_of n word) (sym (add-one place)))
 
-  turn : (next : ℕ) → numeral (divided binary generator 1 seventeen) ≡ next → Going count word next (rest / 2) (i + 1)
-  turn next e = record { most = omega arith; left = halved; held = sym e ∙ ap numeral stepped }
+  turn : (next : ℕ) → numeral (divided binary generator 1 seventeen) ≡ next → Going word next (rest / 2) (place + 1)
+  turn next e = record { left = halved; held = sym e ∙ ap numeral stepped }
 
   -- A turn that takes nothing away,
-  pub turn_low : shifted register rest < 65536 → Going count word (shifted register rest) (rest / 2) (i + 1)
+  pub turn_low : shifted register rest < 65536 → Going word (shifted register rest) (rest / 2) (place + 1)
   turn_low l = turn (shifted register rest) (step_low seventeen seventeen_long (rw is_shifted at l) ∙ sym is_shifted)
 
   -- and one that takes the divisor away.
-  pub turn_high : 65536 ≤ shifted register rest → Going count word (bit_xor (shifted register rest) 98309) (rest / 2) (i + 1)
+  pub turn_high : 65536 ≤ shifted register rest → Going word (bit_xor (shifted register rest) 98309) (rest / 2) (place + 1)
   turn_high l =
       turn (bit_xor (shifted register rest) 98309)
       (step_high seventeen seventeen_long (rw is_shifted at l) ∙ ap (λ (x : ℕ). bit_xor x 98309) (sym is_shifted))
-
--- After all turns the register holds the remainder of the bits.
-pub finish : (count word register rest i : ℕ) → Going count word register rest i → count ≤ i → register ≡ numeral (remainder (bits_of count word))
-finish count word register rest i g h =
-    g.held ∙ ap (λ (n : ℕ). numeral (remainder (bits_of n word))) (let m = g.most in let e : i ≡ count = omega arith in e)

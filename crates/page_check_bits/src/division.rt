@@ -1,11 +1,11 @@
 // The check bits of a word, bit by bit, and the check call.
 ghost use Rattle.std.specs.Prelude.{◌≡◌, ◌≤◌};
-ghost use Rattle.answers.specs.Answers.{said};
+ghost use Rattle.answers.specs.Answers.{said_count};
 ghost use Rattle.page_word.specs.Word.{bits_of};
 ghost use Rattle.polynomials.specs.Binary.{numeral};
 ghost use Rattle.page_check_bits.specs.CheckBits.{remainder, check_bits, agrees, checked};
 
-use answers::{Answer, Refusal};
+use answers::Refusal;
 use page_word::WIDE;
 
 // x^16 + x^15 + x^2 + 1, as bits.
@@ -18,17 +18,15 @@ fn register_after(bits: u64, count: u32) -> u32
 {
     let mut register: u32 = 0;
     let mut rest = bits;
-    let mut i: u32 = 0;
-    while i < count {
+    for _ in 0..count {
         let bit = (rest % 2) as u32;
         let shifted = (register << 1) ^ (bit << 16);
-        if shifted < 0x10000 {
-            register = shifted;
+        register = if shifted < 0x10000 {
+            shifted
         } else {
-            register = shifted ^ GENERATOR;
-        }
-        rest = rest / 2;
-        i += 1;
+            shifted ^ GENERATOR
+        };
+        rest /= 2;
     }
     register
 }
@@ -49,11 +47,11 @@ pub fn bits_agree(bits: u64) -> bool
 }
 
 // The check bits of a word, or Wide.
-pub fn check(word: u64) -> Answer
-    ensures { said result ≡ checked word }
+pub fn check(word: u64) -> Result<u32, Refusal>
+    ensures { said_count result ≡ checked word }
 {
     if WIDE <= word {
-        return Answer::Refused(Refusal::Wide);
+        return Err(Refusal::Wide);
     }
-    Answer::Number(check_bits(word) as u64)
+    Ok(check_bits(word))
 }
