@@ -99,7 +99,7 @@ fn counted(answer: &Answer) -> usize {
 // Operation 8: the answer, and three cells for each message.
 pub(crate) fn messages(alloc: Global, pages: &[u64]) -> Result<Vec<u64>, AllocError> {
     let mut found = [0; MOST_MESSAGE_CELLS];
-    let answer = page_messages::messages(pages, &mut found);
+    let answer = Answer::from(page_messages::messages(pages, &mut found));
     let count = counted(&answer);
     let mut told = one(alloc, answer)?;
     for message in found.chunks_exact(MESSAGE_CELLS).take(count) {

@@ -120,7 +120,7 @@ pub extern "C" fn maststep_messages(pages: &[u64], messages: &mut [u64]) -> u64
     ensures says { result ≡ packed (messages_of pages.now messages.old).says }
     ensures leaves { messages.new ≡ (messages_of pages.now messages.old).list }
 {
-    page_messages::messages(pages, messages).packed()
+    Answer::from(page_messages::messages(pages, messages)).packed()
 }
 
 // Takes a burst of data symbols into the lent state of a frame: the number of symbols taken so far, or 12, 21, 20.

@@ -1,27 +1,21 @@
 // The two readers of a run: the reader of a message hands over to the reader of its unformatted pages, which hands back at the next message. They call
 // one another, and end: whenever the first hands over it has read a page, so the number of unread pages falls. The run is only read.
-ghost use Rattle.std.specs.Prelude.{◌≡◌, true, ◌+◌, ◌*◌, ◌≤◌, ◌<◌, length, drop, get_or};
+ghost use Rattle.std.specs.Prelude.{◌≡◌, true, ◌+◌, ◌*◌, ◌≤◌, ◌<◌, length, drop, get_or, take_while, not};
 ghost use Rattle.std.proofs.lemmas.List.Edits.{sets};
-ghost use Rattle.page_messages.specs.Messages.{is_message_page, messages_in, unformatted_ahead};
+ghost use Rattle.page_messages.specs.Messages.{is_message_page, messages_in};
 ghost use Rattle.page_messages.specs.Telling.{told_from, cells_of};
 ghost use Rattle.page_messages.specs.Readers.{cells_after};
 
 use crate::pages::{code_of, is_message_page};
 
-// The place of the first message page from a place on; the end of the run, if there is none.
-#[tactic(auto, using(crate::proofs::Looking::none_ahead, crate::proofs::Looking::one_ahead, crate::proofs::Looking::end_ahead))]
-fn next_message_page(pages: &[u64], from: usize) -> usize
-    requires { from ≤ length pages.now }
-    ensures { result ≡ from + length (unformatted_ahead (drop from pages.now)) }
+// How many unformatted pages stand ahead of the first message page.
+fn unformatted_ahead(pages: &[u64]) -> usize
+    ensures { result ≡ length (take_while (λ page. not (is_message_page page)) pages.now) }
 {
-    let mut at = from;
-    while at < pages.len() {
-        if is_message_page(pages[at]) {
-            return at;
-        }
-        at += 1;
-    }
-    at
+    pages
+        .iter()
+        .take_while(|page| !is_message_page(**page))
+        .count()
 }
 
 // Reads the message page at a place, tells its code and its place, and hands over to the reader of its unformatted pages.
@@ -41,8 +35,9 @@ fn read_unformatted(pages: &[u64], first: usize, list: &mut [u64], told: usize)
     requires { (first < length pages.now) × (told + 3 + 3 * length (messages_in (drop (first + 1) pages.now)) ≤ length list.old) }
     ensures { list.new ≡ sets list.old (told + 2) (cells_after first pages.now) }
 {
-    let next = next_message_page(pages, first + 1);
-    list[told + 2] = (next - first - 1) as u64;
+    let count = unformatted_ahead(&pages[first + 1..]);
+    list[told + 2] = count as u64;
+    let next = first + 1 + count;
     if next < pages.len() {
         read_message(pages, next, list, told + 3)
     }

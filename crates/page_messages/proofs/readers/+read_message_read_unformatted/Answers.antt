@@ -8,13 +8,12 @@ read_message-returns t c =
 
 pub read_unformatted-read_message-requires : goal.read_unformatted-read_message-requires
 read_unformatted-read_message-requires t c =
-    let found = c.next_message_page-next.ensures in
+    let counted = c.unformatted_ahead-count.ensures in
     let inside = c.if-next-pages.true in
-    let room = room_left _ _ _ found _ _ _ _ inside c.requires.1 in
-    (omega arith, (inside, message_next _ _ _ found inside, room))
+    (omega arith, (inside, message_next _ _ _ counted inside, room_left _ _ _ counted _ _ _ _ inside c.requires.1))
 
 pub read_unformatted-returns-then-next-pages : goal.read_unformatted-returns-then-next-pages
-read_unformatted-returns-then-next-pages t c = back _ _ _ c.next_message_page-next.ensures _ _ _ c.read_message.ensures
+read_unformatted-returns-then-next-pages t c = back _ _ _ c.unformatted_ahead-count.ensures _ _ _ c.read_message.ensures
 
 pub read_unformatted-returns-else-next-pages : goal.read_unformatted-returns-else-next-pages
-read_unformatted-returns-else-next-pages t c = last _ _ _ c.next_message_page-next.ensures _ _ c.if-next-pages.false
+read_unformatted-returns-else-next-pages t c = last _ _ _ c.unformatted_ahead-count.ensures _ _ c.if-next-pages.false
