@@ -116,7 +116,7 @@ pub(crate) fn parity_take(
 ) -> Result<Vec<u64>, AllocError> {
     let mut state: Vec<u16> = state.iter().copied().map(symbol_of).collect(alloc)?;
     let burst: Vec<u16> = burst.iter().copied().map(symbol_of).collect(alloc)?;
-    let answer = frame_parity::take_burst(&mut state, &burst);
+    let answer = Answer::from(frame_parity::take_burst(&mut state, &burst));
     with_list(alloc, answer, &state)
 }
 
@@ -125,7 +125,7 @@ pub(crate) fn parity_finish(alloc: Global, state: &[u64]) -> Result<Vec<u64>, Al
     let state: Vec<u16> = state.iter().copied().map(symbol_of).collect(alloc)?;
     let mut parity = [0u16; PARITY_SYMBOLS];
     match frame_parity::finish(&state, &mut parity) {
-        Answer::Number(count) => with_list(alloc, Answer::Number(count), &parity),
-        refused => one(alloc, refused),
+        Ok(count) => with_list(alloc, Answer::from(Ok(count)), &parity),
+        Err(refusal) => one(alloc, Answer::Refused(refusal)),
     }
 }

@@ -1,15 +1,15 @@
--- What a burst answers and leaves, and what a finish does, at each way out.
+-- What a burst leaves of a state, and what a finish gives.
+use Rattle.answers.proofs.PutAtStart.{put_at_start}
+use Rattle.answers.specs.declared.Refusal.TheVariants.{Room, Symbol, Count}
 use mathlib.Core.Path.{◌≡◌, sym, ap, ◌∙◌, subst}
-use mathlib.Core.Bool.{true, false, ◌&&◌}
+use mathlib.Core.Bool.{true, ◌&&◌, false}
 use mathlib.Core.List.{List, [], ◌∷◌, ◌++◌}
 use Prim.Native.Nat.{ℕ, ◌+◌, ◌≤◌, ◌<◌}
 use native.Mathlib.Omega.{arith}
-use borrow.Author.Tests.{lt-ltb, le-ltb, eq-eqb, ne_eqb}
-use lib.ListN.{length, length-append, length-set, take, drop, set}
-use lib.Seq.{take_at, set_at, take_all, length-take-le}
-use Rattle.answers.specs.Answers.{Leaves, number, leaving, put_at, kept}
-use Rattle.answers.specs.declared.Refusal.TheVariants.{Room, Symbol, Count}
-use Rattle.answers.proofs.PutAtStart.{put_at_start}
+use borrow.Author.Tests.{le-ltb, eq-eqb, lt-ltb, ne_eqb}
+use lib.ListN.{length, take, set, drop}
+use lib.Seq.{take_at, set_at, length-take-le}
+use Rattle.answers.specs.Answers.{number, leaving, put_at, kept}
 use Rattle.page_word.proofs.ComputedTest.{and_left, and_right}
 use Rattle.frame_polynomial.specs.Frame.{all_symbols}
 use Rattle.frame_polynomial.proofs.SymbolLists.{as_symbols}
@@ -45,46 +45,20 @@ module _ (state burst : List ℕ) where
         most = m;
       }
 
-front : (state : List ℕ) → 45 ≤ length state → length (register_of state) ≡ 44
+pub front : (state : List ℕ) → 45 ≤ length state → length (register_of state) ≡ 44
 front state h = length-take-le 44 state (omega arith)
 
 pub loaded : (state register : List ℕ) → 45 ≤ length state → all_symbols (register_of state) ≡ true → register ≡ register_of state ++ (0 ∷ []) → Ready register
 loaded state register h e f = subst Ready (sym f) (ready (register_of state) (front state h) (as_symbols (register_of state) e))
 
--- The register and, behind it, the count go over the state's first entries.
+-- The register and, behind it, the count are the entries that go over the state's first ones.
 pub stored : (state burst register pushed : List ℕ) (count : ℕ) → Fits state burst count → register ≡ register_of state ++ (0 ∷ [])
-    → pushed ≡ register_after (register_of register) burst ++ (0 ∷ [])
-    → take 45 (set pushed 44 count) ++ drop 45 state ≡ put_at 0 (entries_after state burst) state
+    → pushed ≡ register_after (register_of register) burst ++ (0 ∷ []) → set pushed 44 count ≡ entries_after state burst
 stored state burst register pushed count f e p =
-    ap (λ (l : List ℕ). take 45 l ++ drop 45 state) written
-    ∙ ap (λ (l : List ℕ). l ++ drop 45 state) (take_all 45 (entries_after state burst) (let l = long in omega arith))
-    ∙ ap (λ (n : ℕ). entries_after state burst ++ drop n state) (sym long)
-    ∙ sym (put_at_start (entries_after state burst) state)
-  where
-    left : length (register_after (register_of state) burst) ≡ 44
-    left = after_length (register_of state) burst (front state f.long)
-
-    long : length (entries_after state burst) ≡ 45
-    long = length-append (register_after (register_of state) burst) ((count_of state + length burst) ∷ []) ∙ (let l = after_length (register_of state) burst (front state f.long) in omega arith)
-
-    written : set pushed 44 count ≡ entries_after state burst
-    written =
-        ap (λ (l : List ℕ). set l 44 count)
-        (p ∙ ap (λ (l : List ℕ). register_after l burst ++ (0 ∷ [])) (ap (take 44) e ∙ take_at (register_of state) (0 ∷ []) 44 (front state f.long)))
-        ∙ set_at (register_after (register_of state) burst) 0 [] count 44 left
-        ∙ ap (λ (n : ℕ). register_after (register_of state) burst ++ (n ∷ [])) f.counted
-
-pub stored_long : (state burst register pushed : List ℕ) (count : ℕ) → Fits state burst count → register ≡ register_of state ++ (0 ∷ [])
-    → pushed ≡ register_after (register_of register) burst ++ (0 ∷ []) → 45 ≤ length (set pushed 44 count)
-stored_long state burst register pushed count f e p = let l = long in omega arith
-  where
-    loaded_long : length register ≡ 45
-    loaded_long = ap length e ∙ length-append (register_of state) (0 ∷ []) ∙ (let l = front state f.long in omega arith)
-
-    long : length (set pushed 44 count) ≡ 45
-    long =
-        length-set pushed 44 count ∙ ap length p ∙ length-append (register_after (register_of register) burst) (0 ∷ [])
-        ∙ (let l = after_length (register_of register) burst (length-take-le 44 register (omega (arith, loaded_long))) in omega arith)
+    ap (λ (l : List ℕ). set l 44 count)
+    (p ∙ ap (λ (l : List ℕ). register_after l burst ++ (0 ∷ [])) (ap (take 44) e ∙ take_at (register_of state) (0 ∷ []) 44 (front state f.long)))
+    ∙ set_at (register_after (register_of state) burst) 0 [] count 44 (after_length (register_of state) burst (front state f.long))
+    ∙ ap (λ (n : ℕ). register_after (register_of state) burst ++ (n ∷ [])) f.counted
 
 -- ---- the finish
 module _ (state list : List ℕ) where
@@ -111,7 +85,3 @@ module _ (state list : List ℕ) where
 
   pub given : 45 ≤ length state → take 44 state ++ drop 44 list ≡ put_at 0 (register_of state) list
   given h = ap (λ (n : ℕ). register_of state ++ drop n list) (sym (front state h)) ∙ sym (put_at_start (register_of state) list)
-
--- What a call says and what it leaves, from both together.
-pub both : (answer leaves : Leaves) → leaves ≡ answer → (answer.says ≡ leaves.says) × (answer.list ≡ leaves.list)
-both answer leaves e = (sym (ap (λ (l : Leaves). l.says) e), sym (ap (λ (l : Leaves). l.list) e))

@@ -6,7 +6,7 @@ use Prim.Native.Nat.{ℕ, zero, suc, ◌+◌, ◌*◌, ◌/◌, ◌%◌, ◌≤�
 use native.Mathlib.Numerals.{add-one}
 use native.Mathlib.Omega.{arith}
 use lib.Bits.{xor_comm, xor_lt}
-use lib.ListN.{length, length-append, length-map, length-replicate, take, set, get_or, replicate}
+use lib.ListN.{length, length-append, length-map, length-replicate, take, drop, set, get_or, replicate}
 use lib.Seq.{take-suc, take_all, take_at, get_or_at, length-take-le}
 use Rattle.polynomials.specs.Polynomials.{plus, scaled, remainder_after}
 use Rattle.polynomials.proofs.Sums.{plus_at, plus_append, plus_zeros, scaled_at}
@@ -18,7 +18,7 @@ use Rattle.frame_polynomial.proofs.SymbolLists.{Symbols, as_symbols, all_symbols
 use Rattle.frame_polynomial.proofs.Roots.{lower, generator_is, lower_long, lower_symbols, divided_symbols}
 use Rattle.frame_parity.specs.Taking.{register_of, register_after}
 use Rattle.frame_parity.specs.Working.{rows_of, Ready, Going}
-use Rattle.frame_parity.proofs.Putting.{Put, put_none, put_more, put_all}
+use Rattle.frame_parity.proofs.Putting.{put_more}
 use Rattle.frame_parity.proofs.RowLaws.{low_row, middle_row, high_row, in_three}
 
 -- ---- a burst, by the generator's lower coefficients
@@ -100,22 +100,22 @@ cell rows (a ∷ r) s at e w h k =
     c = a ⊕ s
 
 -- The loop over the 44 places.
-pub push_begun : (rows : List (List ℕ)) (r : List ℕ) (s : ℕ) → Going r s rows → Put (register_after (register_of r) (s ∷ [])) (replicate 45 0) (replicate 45 0) 44 0
-push_begun rows r s g =
-    put_none (register_after (register_of r) (s ∷ [])) (replicate 45 0) 44 (let l = after_length (register_of r) (s ∷ []) (front_length r g.ready) in omega arith) (omega arith)
-
-pub push_more : (rows : List (List ℕ)) (r : List ℕ) (s : ℕ) (out : List ℕ) (at : ℕ) → Going r s rows → Put (register_after (register_of r) (s ∷ [])) (replicate 45 0) out 44 at → at < 44
+pub push_more : (rows : List (List ℕ)) (r : List ℕ) (s : ℕ) (out : List ℕ) (at : ℕ) → Going r s rows
+    → out ≡ take at (register_after (register_of r) (s ∷ [])) ++ drop at (replicate 45 0) → at < 44
     → let c = get_or r 0 0 ⊕ s in
-    Put (register_after (register_of r) (s ∷ [])) (replicate 45 0)
-    (set out at (((get_or r (at + 1) 0 ⊕ get_or (get_or rows (c % 8) []) at 0) ⊕ get_or (get_or rows (c / 8 % 8 + 8) []) at 0) ⊕ get_or (get_or rows (c / 64 % 8 + 16) []) at 0))
-    44 (at + 1)
+    set out at (((get_or r (at + 1) 0 ⊕ get_or (get_or rows (c % 8) []) at 0) ⊕ get_or (get_or rows (c / 8 % 8 + 8) []) at 0) ⊕ get_or (get_or rows (c / 64 % 8 + 16) []) at 0)
+    ≡ take (at + 1) (register_after (register_of r) (s ∷ [])) ++ drop (at + 1) (replicate 45 0)
 push_more rows r s out at g p h =
-    put_more (register_after (register_of r) (s ∷ [])) (replicate 45 0) out 44 at _ p h (cell rows r s at g.table g.ready g.symbol_below h)
+    put_more (register_after (register_of r) (s ∷ [])) (replicate 45 0) out at _ p
+    (let l = after_length (register_of r) (s ∷ []) (front_length r g.ready) in omega arith) (omega arith)
+    (cell rows r s at g.table g.ready g.symbol_below h)
 
-pub push_done : (rows : List (List ℕ)) (r : List ℕ) (s : ℕ) (out : List ℕ) (at : ℕ) → Going r s rows → Put (register_after (register_of r) (s ∷ [])) (replicate 45 0) out 44 at → 44 ≤ at
+pub push_done : (rows : List (List ℕ)) (r : List ℕ) (s : ℕ) (out : List ℕ) (at : ℕ) → Going r s rows
+    → out ≡ take at (register_after (register_of r) (s ∷ [])) ++ drop at (replicate 45 0) → at ≤ 44 → 44 ≤ at
     → out ≡ register_after (register_of r) (s ∷ []) ++ (0 ∷ [])
-push_done rows r s out at g p h =
-    put_all (register_after (register_of r) (s ∷ [])) (replicate 45 0) out 44 at p h
+push_done rows r s out at g p m h =
+    p
+    ∙ ap (λ (n : ℕ). take n (register_after (register_of r) (s ∷ [])) ++ drop n (replicate 45 0)) (let e : at ≡ 44 = omega arith in e)
     ∙ ap (λ (l : List ℕ). l ++ (0 ∷ []))
     (take_all 44 (register_after (register_of r) (s ∷ [])) (let l = after_length (register_of r) (s ∷ []) (front_length r g.ready) in omega arith))
 
@@ -128,48 +128,42 @@ ready register h b =
       last = get_or_at register 0 [] 0 44 h;
     }
 
--- So many symbols of a burst have been pushed.
-pub record Pushed (burst first register : List ℕ) (at : ℕ) : Type 0 where
-  pub most : at ≤ length burst
-  pub ready_first : Ready first
-  pub all : all_symbols burst ≡ true
-  pub is : register ≡ register_after (register_of first) (take at burst) ++ (0 ∷ [])
-
 whole : (q : List ℕ) → Ready q → q ≡ register_of q ++ (0 ∷ [])
 whole q w =
     let l = w.long in
     sym (ap (λ (x : ℕ). take 44 q ++ (x ∷ [])) (sym w.last) ∙ sym (take-suc q 44 0 (omega arith)) ∙ take_all 45 q (omega arith))
 
-pub none_pushed : (burst q : List ℕ) → Ready q → all_symbols burst ≡ true → Pushed burst q q 0
-none_pushed burst q w b =
-    record { most = omega arith; ready_first = w; all = b; is = whole q w ∙ ap (λ (l : List ℕ). l ++ (0 ∷ [])) (sym (after_none (register_of q) (front_length q w))) }
+-- So many symbols of a burst have been pushed.
+pub none_pushed : (q : List ℕ) → Ready q → q ≡ register_after (register_of q) [] ++ (0 ∷ [])
+none_pushed q w = whole q w ∙ sym (ap (λ (l : List ℕ). l ++ (0 ∷ [])) (after_none (register_of q) (front_length q w)))
 
-pub going : (burst first q : List ℕ) (at : ℕ) (rows : List (List ℕ)) → Pushed burst first q at → at < length burst → rows ≡ rows_of → Going q (get_or burst at 0) rows
-going burst first q at rows p h e =
-    record {
-      ready =
-          subst Ready (sym p.is)
-          (ready (register_after (register_of first) (take at burst)) (after_length (register_of first) (take at burst) (front_length first p.ready_first))
-          (after_symbols (register_of first) (take at burst) (as_symbols (register_of first) p.ready_first.all) (take_symbols at burst (as_symbols burst p.all))));
-      symbol_below = symbol_at burst at (as_symbols burst p.all) h;
-      table = e;
-    }
+module _ (burst first q : List ℕ) (at : ℕ) (w : Ready first) (b : all_symbols burst ≡ true) (is : q ≡ register_after (register_of first) (take at burst) ++ (0 ∷ [])) (h : at < length burst) where
+  pub going : (rows : List (List ℕ)) → rows ≡ rows_of → Going q (get_or burst at 0) rows
+  going rows e =
+      record {
+        ready =
+            subst Ready (sym is)
+            (ready (register_after (register_of first) (take at burst)) (after_length (register_of first) (take at burst) (front_length first w))
+            (after_symbols (register_of first) (take at burst) (as_symbols (register_of first) w.all) (take_symbols at burst (as_symbols burst b))));
+        symbol_below = symbol_at burst at (as_symbols burst b) h;
+        table = e;
+      }
 
-pub one_pushed : (burst first q next : List ℕ) (at : ℕ) → Pushed burst first q at → at < length burst
-    → next ≡ register_after (register_of q) (get_or burst at 0 ∷ []) ++ (0 ∷ []) → Pushed burst first next (at + 1)
-one_pushed burst first q next at p h e =
-    record { most = omega arith; ready_first = p.ready_first; all = p.all; is = e ∙ ap (λ (l : List ℕ). l ++ (0 ∷ [])) (front ∙ longer) }
-  where
-    front : register_after (register_of q) (get_or burst at 0 ∷ []) ≡ register_after (register_after (register_of first) (take at burst)) (get_or burst at 0 ∷ [])
-    front =
-        ap (λ (l : List ℕ). register_after l (get_or burst at 0 ∷ []))
-        (ap (take 44) p.is
-        ∙ take_at (register_after (register_of first) (take at burst)) (0 ∷ []) 44 (after_length (register_of first) (take at burst) (front_length first p.ready_first)))
+  pub one_pushed : (next : List ℕ) → next ≡ register_after (register_of q) (get_or burst at 0 ∷ []) ++ (0 ∷ [])
+      → next ≡ register_after (register_of first) (take (at + 1) burst) ++ (0 ∷ [])
+  one_pushed next e = e ∙ ap (λ (l : List ℕ). l ++ (0 ∷ [])) (front ∙ longer)
+    where
+      front : register_after (register_of q) (get_or burst at 0 ∷ []) ≡ register_after (register_after (register_of first) (take at burst)) (get_or burst at 0 ∷ [])
+      front =
+          ap (λ (l : List ℕ). register_after l (get_or burst at 0 ∷ []))
+          (ap (take 44) is
+          ∙ take_at (register_after (register_of first) (take at burst)) (0 ∷ []) 44 (after_length (register_of first) (take at burst) (front_length first w)))
 
-    longer : register_after (register_after (register_of first) (take at burst)) (get_or burst at 0 ∷ []) ≡ register_after (register_of first) (take (at + 1) burst)
-    longer =
-        sym (after_cut (register_of first) (take at burst) (get_or burst at 0 ∷ []) (front_length first p.ready_first))
-        ∙ ap (register_after (register_of first)) (sym (take-suc burst at 0 h) ∙ ap (λ (n : ℕ). take n burst) (sym (add-one at)))
+      longer : register_after (register_after (register_of first) (take at burst)) (get_or burst at 0 ∷ []) ≡ register_after (register_of first) (take (at + 1) burst)
+      longer =
+          sym (after_cut (register_of first) (take at burst) (get_or burst at 0 ∷ []) (front_length first w))
+          ∙ ap (register_after (register_of first)) (sym (take-suc burst at 0 h) ∙ ap (λ (n : ℕ). take n burst) (sym (add-one at)))
 
-pub all_pushed : (burst first q : List ℕ) (at : ℕ) → Pushed burst first q at → length burst ≤ at → q ≡ register_after (register_of first) burst ++ (0 ∷ [])
-all_pushed burst first q at p h = p.is ∙ ap (λ (l : List ℕ). register_after (register_of first) l ++ (0 ∷ [])) (take_all at burst h)
+pub all_pushed : (burst first q : List ℕ) (at : ℕ) → q ≡ register_after (register_of first) (take at burst) ++ (0 ∷ []) → length burst ≤ at
+    → q ≡ register_after (register_of first) burst ++ (0 ∷ [])
+all_pushed burst first q at is h = is ∙ ap (λ (l : List ℕ). register_after (register_of first) l ++ (0 ∷ [])) (take_all at burst h)

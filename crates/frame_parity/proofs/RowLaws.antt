@@ -1,13 +1,13 @@
 -- Rows of 44 symbols: times alpha, sums, and the table of them.
 use mathlib.Core.Path.{◌≡◌, refl, sym, ap, ap₂, ◌∙◌, subst}
 use mathlib.Core.Bool.{true, xor}
-use mathlib.Core.List.{List, [], ◌∷◌, append-nil}
+use mathlib.Core.List.{List, [], ◌∷◌, ◌++◌, append-nil}
 use Prim.Native.Nat.{ℕ, zero, suc, ◌+◌, ◌*◌, ◌/◌, ◌%◌, ◌^◌, ◌≤◌, ◌<◌}
 use native.Mathlib.Nat.{not-suc-le-zero, mul-one, add-zero}
 use native.Mathlib.Omega.{arith}
 use lib.Dec.{eqb}
 use lib.Bits.{bit_xor, xor_zero_r, xor_lt}
-use lib.ListN.{length, length-map, take, set, get_or, replicate}
+use lib.ListN.{length, length-map, take, drop, drop_of_length-le, set, get_or, replicate}
 use lib.Seq.{take_all}
 use borrow.Author.Tests.{eqb-true}
 use Rattle.page_word.proofs.ComputedTest.{every_below, at_each}
@@ -21,7 +21,7 @@ use Rattle.frame_polynomial.proofs.SymbolLists.{Symbols, as_symbols, all_symbols
 use Rattle.frame_polynomial.proofs.Roots.{lower, lower_long, lower_symbols}
 use Rattle.frame_polynomial.proofs.GeneratorList.{lower_list, lower_list_law}
 use Rattle.frame_parity.specs.Working.{Row, RowTimes, RowSum, factor_of, rows_from, rows_of}
-use Rattle.frame_parity.proofs.Putting.{Put, put_none, put_more, put_all}
+use Rattle.frame_parity.proofs.Putting.{put_more}
 
 -- ---- a symbol times alpha
 alpha_times : (x : ℕ) → x < 512 → alpha ⊗ x ≡ times_alpha x
@@ -42,18 +42,15 @@ row_symbol row at r h = symbol_at row at (as_symbols row r.all) (let l = r.long 
 scaled_long : (c : ℕ) (row : List ℕ) → Row row → length (scaled symbols c row) ≡ 44
 scaled_long c row r = length-map row (symbols.product c) ∙ r.long
 
-pub alpha_begun : (row : List ℕ) → Row row → Put (scaled symbols alpha row) (replicate 44 0) (replicate 44 0) 44 0
-alpha_begun row r = put_none (scaled symbols alpha row) (replicate 44 0) 44 (let l = scaled_long alpha row r in omega arith) (omega arith)
-
-pub alpha_more : (row out : List ℕ) (at value : ℕ) → Row row → Put (scaled symbols alpha row) (replicate 44 0) out 44 at → at < 44 → value ≡ alpha ⊗ get_or row at 0
-    → Put (scaled symbols alpha row) (replicate 44 0) (set out at value) 44 (at + 1)
+pub alpha_more : (row out : List ℕ) (at value : ℕ) → Row row → out ≡ take at (scaled symbols alpha row) ++ drop at (replicate 44 0) → at < 44
+    → value ≡ alpha ⊗ get_or row at 0 → set out at value ≡ take (at + 1) (scaled symbols alpha row) ++ drop (at + 1) (replicate 44 0)
 alpha_more row out at value r p h e =
-    put_more (scaled symbols alpha row) (replicate 44 0) out 44 at value p h (e ∙ sym (scaled_at symbols alpha row at 0 (let l = r.long in omega arith)))
+    put_more (scaled symbols alpha row) (replicate 44 0) out at value p (let l = scaled_long alpha row r in omega arith) (omega arith) (e ∙ sym (scaled_at symbols alpha row at 0 (let l = r.long in omega arith)))
 
-filled : (entries out : List ℕ) (at : ℕ) → length entries ≡ 44 → Put entries (replicate 44 0) out 44 at → 44 ≤ at → out ≡ entries
-filled entries out at l p h = put_all entries (replicate 44 0) out 44 at p h ∙ append-nil (take 44 entries) ∙ take_all 44 entries (omega arith)
+filled : (entries out : List ℕ) (at : ℕ) → length entries ≡ 44 → out ≡ take at entries ++ drop at (replicate 44 0) → 44 ≤ at → out ≡ entries
+filled entries out at l p h = p ∙ ap₂ ◌++◌ (take_all at entries (omega arith)) (drop_of_length-le (replicate 44 0) h) ∙ append-nil entries
 
-pub alpha_done : (row out : List ℕ) (at : ℕ) → Row row → Put (scaled symbols alpha row) (replicate 44 0) out 44 at → 44 ≤ at → RowTimes alpha row out
+pub alpha_done : (row out : List ℕ) (at : ℕ) → Row row → out ≡ take at (scaled symbols alpha row) ++ drop at (replicate 44 0) → 44 ≤ at → RowTimes alpha row out
 alpha_done row out at r p h = record { is = e; fit = subst Row (sym e) (record { long = scaled_long alpha row r; all = all_symbols_law (scaled symbols alpha row) (scaled_symbols alpha row) }) }
   where
     e : out ≡ scaled symbols alpha row
@@ -63,15 +60,13 @@ alpha_done row out at r p h = record { is = e; fit = subst Row (sym e) (record {
 sum_long : (one other : List ℕ) → length one ≡ 44 → length other ≡ 44 → length (plus symbols one other) ≡ 44
 sum_long one other h k = plus_length symbols one other (omega arith) ∙ k
 
-pub sum_begun : (one other : List ℕ) → length one ≡ 44 → length other ≡ 44 → Put (plus symbols one other) (replicate 44 0) (replicate 44 0) 44 0
-sum_begun one other h k = put_none (plus symbols one other) (replicate 44 0) 44 (let l = sum_long one other h k in omega arith) (omega arith)
-
-pub sum_more : (one other out : List ℕ) (at : ℕ) → length one ≡ 44 → length other ≡ 44 → Put (plus symbols one other) (replicate 44 0) out 44 at → at < 44
-    → Put (plus symbols one other) (replicate 44 0) (set out at (get_or one at 0 ⊕ get_or other at 0)) 44 (at + 1)
+pub sum_more : (one other out : List ℕ) (at : ℕ) → length one ≡ 44 → length other ≡ 44 → out ≡ take at (plus symbols one other) ++ drop at (replicate 44 0) → at < 44
+    → set out at (get_or one at 0 ⊕ get_or other at 0) ≡ take (at + 1) (plus symbols one other) ++ drop (at + 1) (replicate 44 0)
 sum_more one other out at h k p l =
-    put_more (plus symbols one other) (replicate 44 0) out 44 at (get_or one at 0 ⊕ get_or other at 0) p l (sym (plus_at symbol_sums one other at (omega arith)))
+    put_more (plus symbols one other) (replicate 44 0) out at (get_or one at 0 ⊕ get_or other at 0) p (let m = sum_long one other h k in omega arith) (omega arith) (sym (plus_at symbol_sums one other at (omega arith)))
 
-pub sum_done : (one other out : List ℕ) (at : ℕ) → length one ≡ 44 → length other ≡ 44 → Put (plus symbols one other) (replicate 44 0) out 44 at → 44 ≤ at → RowSum one other out
+pub sum_done : (one other out : List ℕ) (at : ℕ) → length one ≡ 44 → length other ≡ 44 → out ≡ take at (plus symbols one other) ++ drop at (replicate 44 0) → 44 ≤ at
+    → RowSum one other out
 sum_done one other out at h k p l = record { is = e; long = ap length e ∙ sum_long one other h k }
   where
     e : out ≡ plus symbols one other

@@ -1,5 +1,6 @@
 // Lists of entries that a caller lends: are they symbols, and the first of them put over those of another.
-ghost use Rattle.std.specs.Prelude.{◌≡◌, ◌++◌, ◌≤◌, length, take, drop};
+ghost use Rattle.std.specs.Prelude.{◌≡◌, ◌≤◌, length};
+ghost use Rattle.answers.specs.Answers.{put_at};
 ghost use Rattle.frame_polynomial.specs.Frame.{all_symbols};
 
 // The entries of a state, of which the last is the count.
@@ -11,28 +12,25 @@ pub(crate) const PARITY_SYMBOLS: usize = 44;
 // The data symbols of a frame.
 pub(crate) const DATA_SYMBOLS: usize = 406;
 
-// Whether the first numbers of a list are symbols: just if all their bits, put into one number, make one below 512. No test leaves the loop, so that the compiler can take several numbers in a turn.
-pub(crate) fn all_symbols(list: &[u16], count: usize) -> bool
-    requires { count ≤ length list.now }
-    ensures { result ≡ all_symbols (take count list.now) }
+// Whether numbers are symbols: just if all their bits, put into one number, make one below 512. No test leaves the loop, so that the compiler can take several numbers in a turn.
+#[tactic(auto, unfolding(frame_polynomial::specs::Frame::all_symbols), using(crate::proofs::Looking::looked_more, crate::proofs::Looking::looked_all))]
+pub(crate) fn all_symbols(list: &[u16]) -> bool
+    ensures { result ≡ all_symbols list.now }
 {
-    let mut bits: u16 = 0;
-    let mut at: usize = 0;
-    while at < count {
-        bits = bits | list[at];
-        at += 1;
+    let mut bits = 0u16;
+    for number in list {
+        bits |= *number;
     }
     bits < 512
 }
 
-// Puts the first entries of one list over those of another.
-pub(crate) fn put_first(list: &mut [u16], entries: &[u16], count: usize)
-    requires { (count ≤ length list.old) × (count ≤ length entries.now) }
-    ensures { list.new ≡ take count entries.now ++ drop count list.old }
+// Puts entries over the first of a list.
+#[tactic(auto, using(crate::proofs::Putting::put_more, answers::proofs::PutAtStart::put_at_start))]
+pub(crate) fn put_first(list: &mut [u16], entries: &[u16])
+    requires { length entries.now ≤ length list.old }
+    ensures { list.new ≡ put_at 0 entries.now list.old }
 {
-    let mut at: usize = 0;
-    while at < count {
-        list[at] = entries[at];
-        at += 1;
+    for (place, entry) in entries.iter().enumerate() {
+        list[place] = *entry;
     }
 }

@@ -16,10 +16,8 @@ fn push(register: [u16; 45], symbol: u16, rows: &[[u16; 44]; 24]) -> [u16; 45]
     let middle = (first / 8 % 8) as usize + 8;
     let high = (first / 64 % 8) as usize + 16;
     let mut out = [0u16; 45];
-    let mut at: usize = 0;
-    while at < 44 {
+    for at in 0..44 {
         out[at] = register[at + 1] ^ rows[low][at] ^ rows[middle][at] ^ rows[high][at];
-        at += 1;
     }
     out
 }
@@ -31,12 +29,9 @@ fn pushed_by(register: [u16; 45], burst: &[u16], rows: [[u16; 44]; 24]) -> [u16;
     ensures { result ≡ register_after (register_of register) burst.now ++ (0 ∷ []) }
 {
     let mut pushed = register;
-    let mut at: usize = 0;
-    while at < burst.len() {
-        let symbol = burst[at];
-        let next = push(pushed, symbol, &rows);
+    for symbol in burst {
+        let next = push(pushed, *symbol, &rows);
         pushed = next;
-        at += 1;
     }
     pushed
 }

@@ -11,6 +11,7 @@ const LOWER: [u16; 44] = [
 ];
 
 // A symbol times alpha: doubled, less x^9 + x^4 + 1 (529) if there was an x^8.
+#[tactic(auto, using(crate::proofs::RowLaws::low_alpha, crate::proofs::RowLaws::high_alpha))]
 fn times_alpha(symbol: u16) -> u16
     requires { symbol < 512 }
     ensures { result ≡ alpha ⊗ symbol }
@@ -22,30 +23,27 @@ fn times_alpha(symbol: u16) -> u16
 }
 
 // A row times alpha.
+#[tactic(auto, using(crate::proofs::RowLaws::row_symbol, crate::proofs::RowLaws::alpha_more))]
 fn row_times_alpha(row: [u16; 44]) -> [u16; 44]
     requires { Row row }
     ensures { RowTimes alpha row result }
 {
     let mut out = [0u16; 44];
-    let mut at: usize = 0;
-    while at < 44 {
-        let symbol = row[at];
-        out[at] = times_alpha(symbol);
-        at += 1;
+    for at in 0..44 {
+        out[at] = times_alpha(row[at]);
     }
     out
 }
 
 // The sum of two rows. (That both are as long as rows are is a premise of what is ensured, and not required: so the table's proof, which has it of each row, says it where a sum is used, and
 // the 15 calls ask for nothing.)
+#[tactic(auto, using(crate::proofs::RowLaws::sum_more))]
 fn row_sum(one: [u16; 44], other: [u16; 44]) -> [u16; 44]
     ensures { length one ≡ 44 → length other ≡ 44 → RowSum one other result }
 {
     let mut out = [0u16; 44];
-    let mut at: usize = 0;
-    while at < 44 {
+    for at in 0..44 {
         out[at] = one[at] ^ other[at];
-        at += 1;
     }
     out
 }

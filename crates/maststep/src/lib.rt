@@ -129,7 +129,7 @@ pub extern "C" fn maststep_parity_take(state: &mut [u16], burst: &[u16]) -> u64
     ensures says { result ≡ packed (take_of state.old burst.now).says }
     ensures leaves { state.new ≡ (take_of state.old burst.now).list }
 {
-    frame_parity::take_burst(state, burst).packed()
+    Answer::from(frame_parity::take_burst(state, burst)).packed()
 }
 
 // Gives the parity symbols of a frame whose lent state has taken all data: their number, or 12, 21, 20.
@@ -138,5 +138,5 @@ pub extern "C" fn maststep_parity_finish(state: &[u16], parity: &mut [u16]) -> u
     ensures says { result ≡ packed (finish_of state.now parity.old).says }
     ensures leaves { parity.new ≡ (finish_of state.now parity.old).list }
 {
-    frame_parity::finish(state, parity).packed()
+    Answer::from(frame_parity::finish(state, parity)).packed()
 }

@@ -1,10 +1,7 @@
--- The bits of the numbers looked at so far; what is left of the count falls.
-use Rattle.std.proofs.Common.{◌-◌}
-use Rattle.frame_parity.proofs.Looking.{Looked}
+-- The bits of the numbers looked at so far are below 512 just if these numbers are symbols.
+use Rattle.std.proofs.Common.{◌≡◌, take, ltb}
+use Rattle.frame_polynomial.specs.Frame.{all_symbols}
 use Rattle.frame_parity.proofs.lists.all_symbols.Given as goal
 
-abbrev pub invariant-loop-at : goal.invariant-loop-at
-invariant-loop-at l = Looked l.list l.count l.bits l.at
-
-abbrev pub decreases-loop-at : goal.decreases-loop-at
-decreases-loop-at l = l.count - l.at
+abbrev pub invariant-loop-number : goal.invariant-loop-number
+invariant-loop-number l = ltb l.bits 512 ≡ all_symbols (take l.number-index l.list)

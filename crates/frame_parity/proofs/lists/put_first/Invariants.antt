@@ -1,10 +1,6 @@
--- So many entries have been put; what is left of the count falls.
-use Rattle.std.proofs.Common.{◌-◌}
-use Rattle.frame_parity.proofs.Putting.{Put}
+-- The first entries of the list have become those of the other one.
+use Rattle.std.proofs.Common.{◌≡◌, ◌++◌, take, drop}
 use Rattle.frame_parity.proofs.lists.put_first.Given as goal
 
-abbrev pub invariant-loop-at : goal.invariant-loop-at
-invariant-loop-at l = Put l.entries l.initial.list l.list l.count l.at
-
-abbrev pub decreases-loop-at : goal.decreases-loop-at
-decreases-loop-at l = l.count - l.at
+abbrev pub invariant-loop-place : goal.invariant-loop-place
+invariant-loop-place l = l.list ≡ take l.place l.entries ++ drop l.place l.initial.list

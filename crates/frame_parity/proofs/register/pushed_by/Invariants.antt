@@ -1,10 +1,7 @@
--- So many symbols of the burst have been pushed; what is left of the burst falls.
-use Rattle.std.proofs.Common.{◌-◌, length}
-use Rattle.frame_parity.proofs.RegisterLaws.{Pushed}
+-- So many symbols of the burst have been pushed.
+use Rattle.std.proofs.Common.{◌≡◌, [], ◌∷◌, ◌++◌, take}
+use Rattle.frame_parity.specs.Taking.{register_of, register_after}
 use Rattle.frame_parity.proofs.register.pushed_by.Given as goal
 
-abbrev pub invariant-loop-at : goal.invariant-loop-at
-invariant-loop-at l = Pushed l.burst l.initial.pushed l.pushed l.at
-
-abbrev pub decreases-loop-at : goal.decreases-loop-at
-decreases-loop-at l = length l.burst - l.at
+abbrev pub invariant-loop-symbol : goal.invariant-loop-symbol
+invariant-loop-symbol l = l.pushed ≡ register_after (register_of l.initial.pushed) (take l.symbol-index l.burst) ++ (0 ∷ [])
