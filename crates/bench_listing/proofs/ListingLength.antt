@@ -7,10 +7,9 @@ use native.Mathlib.Omega.{arith}
 use borrow.Author.Tests.{le-leb}
 use lib.ListN.{length, take, drop, length-append, length-drop}
 use lib.Seq.{take-append_seam}
-use Rattle.answers.specs.Answers.{Said, number, said_count}
+use Rattle.answers.specs.Answers.{said_count}
 use Rattle.answers.specs.declared.Refusal.{Refusal}
-use Rattle.answers.specs.declared.Answer.TheVariants.{Refused, Number}
-use Rattle.answers.proofs.OneAnswer.{one_answer}
+use Rattle.answers.proofs.OneAnswer.{one_count}
 use Rattle.answers.proofs.PutAtStart.{put_at_start}
 use Rattle.line_captures.specs.Captures.{read_of, onwards, attempts_from, attempts, ReadOutcome}
 use Rattle.std.specs.Prelude.{Some, None, Result, Ok, Err}
@@ -85,14 +84,10 @@ pub answered : (input readings output out : List ℕ) (counted : Result ℕ Refu
 unfolding listed
 answered input readings output out counted a b e o =
     record {
-      told = by counted (rw (le-leb 8000 (length readings) a, le-leb 184040 (length output) b) at e);
+      told = one_count counted (Ok (length (listing input))) (rw (le-leb 8000 (length readings) a, le-leb 184040 (length output) b) at e);
       fits = let l = ap length at_head ∙ length-append (listing input) (drop (length (listing input)) output) in omega arith;
       text = ap (take (length (listing input))) at_head ∙ take-append_seam (listing input) (drop (length (listing input)) output);
     }
   where
     at_head : out ≡ listing input ++ drop (length (listing input)) output
     at_head = rw (le-leb 8000 (length readings) a, le-leb 184040 (length output) b) at o ∙ put_at_start (listing input) output
-
-    by : (counted : Result ℕ Refusal) → said_count counted ≡ number (length (listing input)) → counted ≡ Ok (length (listing input))
-    by (Err refusal) s = let one : Refused refusal ≡ Number (length (listing input)) = one_answer _ _ refl refl s in cc
-    by (Ok count) s = ap (λ (told : Said). Ok told.value) s
