@@ -6,17 +6,16 @@ ghost use Rattle.port_hearing.specs.BasePages.{holds, base_page_in_ability, faul
 use crate::heard_pages::{echoes_other, is_changed, take};
 use answers::{Answer, Refusal};
 use page_word::{Field, get, has_other_selector, is_tie};
-use port_state::{
-    Device, Reply, State, answered, enter_break, with_count, with_flags, with_held, with_mark,
-    with_partner, with_state,
-};
+use port_state::{Device, Reply, State, answered, enter_break};
 
 // The page is held, and the device goes to Ack. 7.517-7.519 are loaded only when the partner has echoed.
 fn hold(device: Device, word: u64, reading: u32) -> Device
     ensures { result ≡ holds word reading device }
 {
-    let held = with_held(device, word);
-    with_state(with_mark(held, true, reading), State::Ack)
+    device
+        .with_held(word)
+        .with_mark(true, reading)
+        .with_state(State::Ack)
 }
 
 // A good page in Ability.
@@ -48,10 +47,12 @@ fn complete(device: Device, word: u64, reading: u32) -> Device
     ensures { result ≡ into_complete word reading device }
 {
     let fault = fault_after(word, device.lasting.flags.fault);
-    let heard = with_mark(device, true, reading);
-    let loaded = with_partner(heard, word);
-    let flagged = with_flags(loaded, true, fault);
-    with_state(with_count(flagged, 0), State::Complete)
+    device
+        .with_mark(true, reading)
+        .with_partner(word)
+        .with_flags(true, fault)
+        .with_count(0)
+        .with_state(State::Complete)
 }
 
 // A good page in Ack.
@@ -66,7 +67,7 @@ pub(crate) fn base_page_in_ack(device: Device, word: u64, reading: u32) -> Reply
         );
     }
     if get(word, Field::Ack) == 0 {
-        return take(with_mark(device, true, reading), word, reading);
+        return take(device.with_mark(true, reading), word, reading);
     }
     if echoes_other(device.link.talk.own, word) {
         return answered(Answer::Refused(Refusal::Echo), enter_break(device, reading));

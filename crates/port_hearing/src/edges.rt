@@ -11,7 +11,7 @@ use crate::next_pages::{next_page_in_ability, next_page_in_ack};
 use answers::{Answer, Refusal};
 use line_mode::LineMode;
 use line_reader::Heard;
-use port_state::{Device, Reply, State, answered, is_base, with_mark, with_reader};
+use port_state::{Device, Reply, State, answered, is_base};
 
 // A good page in Ability, by round.
 #[tactic(auto, unfolding(crate::specs::Edges::page_in_ability))]
@@ -52,7 +52,7 @@ fn page_in(device: Device, word: u64, reading: u32) -> Reply
         State::Break => answered(Answer::Nothing, device),
         State::Ability => page_in_ability(device, word, reading),
         State::Ack => page_in_ack(device, word, reading),
-        State::Complete => take(with_mark(device, true, reading), word, reading),
+        State::Complete => take(device.with_mark(true, reading), word, reading),
         State::CheckLink => answered(Answer::Nothing, device),
         State::Up => answered(Answer::Nothing, device),
     }
@@ -79,7 +79,7 @@ fn listen(mode: LineMode, device: Device, reading: u32) -> Reply
     let step = reader.edge(mode, reading);
     let heard = step.heard;
     let moved = step.reader;
-    hear(with_reader(device, moved), heard, reading)
+    hear(device.with_reader(moved), heard, reading)
 }
 
 // The states in which pages are heard.

@@ -6,13 +6,13 @@ ghost use Rattle.port_hearing.specs.NextPages.{is_changed_next, repeats_held};
 
 use answers::Answer;
 use page_word::{Field, get, set};
-use port_state::{Device, Link, Reply, answered, held_in_round, is_first, with_good};
+use port_state::{Device, Link, Reply, answered, held_in_round, is_first};
 
 // A good page that is not refused: it answers itself, and its last edge is that of the last good page.
 pub(crate) fn take(device: Device, word: u64, reading: u32) -> Reply
     ensures { Meets result (takes word reading device) }
 {
-    answered(Answer::Page(word), with_good(device, reading))
+    answered(Answer::Page(word), device.with_good(reading))
 }
 
 // What of a Next Page counts as changed.

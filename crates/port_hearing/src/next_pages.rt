@@ -6,17 +6,17 @@ ghost use Rattle.port_hearing.specs.NextPages.{holds_next, next_page_in_ability,
 use crate::heard_pages::{is_changed_next, repeats_held, take};
 use answers::{Answer, Refusal};
 use page_word::{Field, get, same_toggle};
-use port_state::{
-    Device, Reply, Round, State, answered, enter_break, held_in_round, with_count, with_flags,
-    with_heard_next, with_held_next, with_mark, with_round, with_state,
-};
+use port_state::{Device, Reply, Round, State, answered, enter_break, held_in_round};
 
 // The Next Page is held, and the device goes to Ack. 7.523-7.525 are loaded only when the partner has acknowledged.
 fn hold_next(device: Device, word: u64, reading: u32) -> Device
     ensures { result ≡ holds_next word reading device }
 {
-    let held = with_round(with_held_next(device, word), Round::Later);
-    with_state(with_mark(held, true, reading), State::Ack)
+    device
+        .with_held_next(word)
+        .with_round(Round::Later)
+        .with_mark(true, reading)
+        .with_state(State::Ack)
 }
 
 // In Ability. Two ends never finish their third sending at one moment, so the one that goes on first still hears the other's old page.
@@ -26,7 +26,7 @@ pub(crate) fn next_page_in_ability(device: Device, word: u64, reading: u32) -> R
 {
     let link = device.link;
     if repeats_held(link, word) {
-        return take(with_mark(device, true, reading), word, reading);
+        return take(device.with_mark(true, reading), word, reading);
     }
     if same_toggle(word, held_in_round(link)) {
         return answered(
@@ -42,10 +42,12 @@ fn complete_again(device: Device, word: u64, reading: u32) -> Device
     ensures { result ≡ into_complete_again word reading device }
 {
     let fault = device.lasting.flags.fault;
-    let heard = with_mark(device, true, reading);
-    let loaded = with_heard_next(heard, word);
-    let flagged = with_flags(loaded, true, fault);
-    with_state(with_count(flagged, 0), State::Complete)
+    device
+        .with_mark(true, reading)
+        .with_heard_next(word)
+        .with_flags(true, fault)
+        .with_count(0)
+        .with_state(State::Complete)
 }
 
 // In Ack. A Next Page carries no nonces, so no echo is asked for.
@@ -61,7 +63,7 @@ pub(crate) fn next_page_in_ack(device: Device, word: u64, reading: u32) -> Reply
         );
     }
     if get(word, Field::Ack) == 0 {
-        return take(with_mark(device, true, reading), word, reading);
+        return take(device.with_mark(true, reading), word, reading);
     }
     take(complete_again(device, word, reading), word, reading)
 }

@@ -9,10 +9,7 @@ ghost use Rattle.port_registers.specs.Registers.{third_at, in_bank, register_of,
 
 use answers::{Answer, Refusal};
 use page_word::{Third, third_of, with_third};
-use port_state::{
-    Device, Reply, State, answered, enter_break, enter_off, with_advertised, with_flags,
-    with_latch, with_loaded, with_transmit,
-};
+use port_state::{Device, Reply, State, answered, enter_break, enter_off};
 
 // Three registers that hold a page.
 #[derive(Drop)]
@@ -118,8 +115,9 @@ fn status_value(device: Device) -> u16
 fn after_status(device: Device) -> Device
     ensures { result ≡ status_read device }
 {
-    let latched = with_latch(device, device.state == State::Up);
-    with_flags(latched, false, false)
+    device
+        .with_latch(device.state == State::Up)
+        .with_flags(false, false)
 }
 
 // A read of 513.
@@ -191,8 +189,9 @@ fn loads(third: Third, loaded: bool) -> bool
 fn write_transmit(device: Device, third: Third, value: u16) -> Device
     ensures { result ≡ transmit_written third value device }
 {
-    let written = with_transmit(device, with_third(device.link.next.transmit, third, value));
-    with_loaded(written, loads(third, device.link.next.loaded))
+    device
+        .with_transmit(with_third(device.link.next.transmit, third, value))
+        .with_loaded(loads(third, device.link.next.loaded))
 }
 
 // The device with one register of a bank written, if that may be.
@@ -200,10 +199,11 @@ fn write_bank(device: Device, bank: Bank, third: Third, value: u16) -> Device
     ensures { result ≡ bank_written bank third value device }
 {
     match bank {
-        Bank::Advertised => with_advertised(
-            device,
-            with_third(device.lasting.advertised, third, value),
-        ),
+        Bank::Advertised => device.with_advertised(with_third(
+            device.lasting.advertised,
+            third,
+            value,
+        )),
         Bank::Transmit => write_transmit(device, third, value),
         Bank::Partner | Bank::Heard => device,
     }

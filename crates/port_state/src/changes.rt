@@ -7,160 +7,162 @@ use crate::rounds::Round;
 use crate::{Device, Outcome, State};
 use line_reader::Reader;
 
-pub fn with_state(mut device: Device, state: State) -> Device
-    ensures { result ≡ with_state state device }
-{
-    device.state = state;
-    device
-}
+impl Device {
+    pub fn with_state(mut self, state: State) -> Self
+        ensures { result ≡ with_state state self }
+    {
+        self.state = state;
+        self
+    }
 
-// 7.514-516.
-pub fn with_advertised(mut device: Device, advertised: u64) -> Device
-    ensures { result ≡ with_advertised advertised device }
-{
-    device.lasting.advertised = advertised;
-    device
-}
+    // 7.514-516.
+    pub fn with_advertised(mut self, advertised: u64) -> Self
+        ensures { result ≡ with_advertised advertised self }
+    {
+        self.lasting.advertised = advertised;
+        self
+    }
 
-// Page received and Remote fault.
-pub fn with_flags(mut device: Device, received: bool, fault: bool) -> Device
-    ensures { result ≡ with_flags received fault device }
-{
-    device.lasting.flags.received = received;
-    device.lasting.flags.fault = fault;
-    device
-}
+    // Page received and Remote fault.
+    pub fn with_flags(mut self, received: bool, fault: bool) -> Self
+        ensures { result ≡ with_flags received fault self }
+    {
+        self.lasting.flags.received = received;
+        self.lasting.flags.fault = fault;
+        self
+    }
 
-// 7.517-519.
-pub fn with_partner(mut device: Device, partner: u64) -> Device
-    ensures { result ≡ with_partner partner device }
-{
-    device.link.partner = partner;
-    device
-}
+    // 7.517-519.
+    pub fn with_partner(mut self, partner: u64) -> Self
+        ensures { result ≡ with_partner partner self }
+    {
+        self.link.partner = partner;
+        self
+    }
 
-pub fn with_outcome(mut device: Device, outcome: Outcome) -> Device
-    ensures { result ≡ with_outcome outcome device }
-{
-    device.link.outcome = outcome;
-    device
-}
+    pub fn with_outcome(mut self, outcome: Outcome) -> Self
+        ensures { result ≡ with_outcome outcome self }
+    {
+        self.link.outcome = outcome;
+        self
+    }
 
-pub fn with_reader(mut device: Device, reader: Reader) -> Device
-    ensures { result ≡ with_reader reader device }
-{
-    device.link.reader = reader;
-    device
-}
+    pub fn with_reader(mut self, reader: Reader) -> Self
+        ensures { result ≡ with_reader reader self }
+    {
+        self.link.reader = reader;
+        self
+    }
 
-// The own base page.
-pub fn with_own(mut device: Device, own: u64) -> Device
-    ensures { result ≡ with_own own device }
-{
-    device.link.talk.own = own;
-    device
-}
+    // The own base page.
+    pub fn with_own(mut self, own: u64) -> Self
+        ensures { result ≡ with_own own self }
+    {
+        self.link.talk.own = own;
+        self
+    }
 
-// The held base page.
-pub fn with_held(mut device: Device, held: u64) -> Device
-    ensures { result ≡ with_held held device }
-{
-    device.link.talk.held = held;
-    device
-}
+    // The held base page.
+    pub fn with_held(mut self, held: u64) -> Self
+        ensures { result ≡ with_held held self }
+    {
+        self.link.talk.held = held;
+        self
+    }
 
-// Whether a page is out.
-pub fn with_out(mut device: Device, out: bool) -> Device
-    ensures { result ≡ with_out out device }
-{
-    device.link.talk.out = out;
-    device
-}
+    // Whether a page is out.
+    pub fn with_out(mut self, out: bool) -> Self
+        ensures { result ≡ with_out out self }
+    {
+        self.link.talk.out = out;
+        self
+    }
 
-// How many pages were sent in Complete.
-pub fn with_count(mut device: Device, count: u32) -> Device
-    ensures { result ≡ with_count count device }
-{
-    device.link.talk.count = count;
-    device
-}
+    // How many pages were sent in Complete.
+    pub fn with_count(mut self, count: u32) -> Self
+        ensures { result ≡ with_count count self }
+    {
+        self.link.talk.count = count;
+        self
+    }
 
-// The one mark: whether it is "heard" or "waiting", and its reading.
-pub fn with_mark(mut device: Device, heard: bool, reading: u32) -> Device
-    ensures { result ≡ with_mark heard reading device }
-{
-    device.link.talk.heard = heard;
-    device.link.talk.mark = reading;
-    device
-}
+    // The one mark: whether it is "heard" or "waiting", and its reading.
+    pub fn with_mark(mut self, heard: bool, reading: u32) -> Self
+        ensures { result ≡ with_mark heard reading self }
+    {
+        self.link.talk.heard = heard;
+        self.link.talk.mark = reading;
+        self
+    }
 
-// The reading at which the state's timer started.
-pub fn with_timer(mut device: Device, reading: u32) -> Device
-    ensures { result ≡ with_timer reading device }
-{
-    device.link.talk.timer = reading;
-    device
-}
+    // The reading at which the state's timer started.
+    pub fn with_timer(mut self, reading: u32) -> Self
+        ensures { result ≡ with_timer reading self }
+    {
+        self.link.talk.timer = reading;
+        self
+    }
 
-// The link latch of 7.513.
-pub fn with_latch(mut device: Device, latch: bool) -> Device
-    ensures { result ≡ with_latch latch device }
-{
-    device.link.talk.latch = latch;
-    device
-}
+    // The link latch of 7.513.
+    pub fn with_latch(mut self, latch: bool) -> Self
+        ensures { result ≡ with_latch latch self }
+    {
+        self.link.talk.latch = latch;
+        self
+    }
 
-// The own Next Page.
-pub fn with_own_next(mut device: Device, own: u64) -> Device
-    ensures { result ≡ with_own_next own device }
-{
-    device.link.next.own = own;
-    device
-}
+    // The own Next Page.
+    pub fn with_own_next(mut self, own: u64) -> Self
+        ensures { result ≡ with_own_next own self }
+    {
+        self.link.next.own = own;
+        self
+    }
 
-// The held Next Page.
-pub fn with_held_next(mut device: Device, held: u64) -> Device
-    ensures { result ≡ with_held_next held device }
-{
-    device.link.next.held = held;
-    device
-}
+    // The held Next Page.
+    pub fn with_held_next(mut self, held: u64) -> Self
+        ensures { result ≡ with_held_next held self }
+    {
+        self.link.next.held = held;
+        self
+    }
 
-// 7.520-522.
-pub fn with_transmit(mut device: Device, transmit: u64) -> Device
-    ensures { result ≡ with_transmit transmit device }
-{
-    device.link.next.transmit = transmit;
-    device
-}
+    // 7.520-522.
+    pub fn with_transmit(mut self, transmit: u64) -> Self
+        ensures { result ≡ with_transmit transmit self }
+    {
+        self.link.next.transmit = transmit;
+        self
+    }
 
-// Whether an own Next Page is loaded.
-pub fn with_loaded(mut device: Device, loaded: bool) -> Device
-    ensures { result ≡ with_loaded loaded device }
-{
-    device.link.next.loaded = loaded;
-    device
-}
+    // Whether an own Next Page is loaded.
+    pub fn with_loaded(mut self, loaded: bool) -> Self
+        ensures { result ≡ with_loaded loaded self }
+    {
+        self.link.next.loaded = loaded;
+        self
+    }
 
-// 7.523-525.
-pub fn with_heard_next(mut device: Device, heard: u64) -> Device
-    ensures { result ≡ with_heard_next heard device }
-{
-    device.link.next.heard = heard;
-    device
-}
+    // 7.523-525.
+    pub fn with_heard_next(mut self, heard: u64) -> Self
+        ensures { result ≡ with_heard_next heard self }
+    {
+        self.link.next.heard = heard;
+        self
+    }
 
-pub fn with_round(mut device: Device, round: Round) -> Device
-    ensures { result ≡ with_round round device }
-{
-    device.link.next.round = round;
-    device
-}
+    pub fn with_round(mut self, round: Round) -> Self
+        ensures { result ≡ with_round round self }
+    {
+        self.link.next.round = round;
+        self
+    }
 
-// The reading of the last good page.
-pub fn with_good(mut device: Device, reading: u32) -> Device
-    ensures { result ≡ with_good reading device }
-{
-    device.link.next.good = reading;
-    device
+    // The reading of the last good page.
+    pub fn with_good(mut self, reading: u32) -> Self
+        ensures { result ≡ with_good reading self }
+    {
+        self.link.next.good = reading;
+        self
+    }
 }

@@ -10,11 +10,6 @@ mod plain_record;
 mod rounds;
 
 use answers::Answer;
-pub use changes::{
-    with_advertised, with_count, with_flags, with_good, with_heard_next, with_held, with_held_next,
-    with_latch, with_loaded, with_mark, with_out, with_outcome, with_own, with_own_next,
-    with_partner, with_reader, with_round, with_state, with_timer, with_transmit,
-};
 use line_reader::Reader;
 use page_resolve::Resolution;
 pub use plain_record::{PlainRecord, ReaderNumbers, SETTLED, is_set};

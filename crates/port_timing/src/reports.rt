@@ -5,7 +5,7 @@ ghost use Rattle.port_state.specs.Memory.{Meets};
 ghost use Rattle.port_timing.specs.Sending.{has_rate, report_in, report_due};
 
 use answers::Answer;
-use port_state::{Device, Outcome, Reply, State, answered, enter_break, with_state};
+use port_state::{Device, Outcome, Reply, State, answered, enter_break};
 
 // Whether an outcome has a rate.
 fn has_rate(outcome: Outcome) -> bool
@@ -19,7 +19,7 @@ fn report_in_check_link(device: Device, up: bool, reading: u32) -> Device
     ensures { result ≡ report_in CheckLink up reading device }
 {
     if up && has_rate(device.link.outcome) {
-        return with_state(device, State::Up);
+        return device.with_state(State::Up);
     }
     device
 }

@@ -7,16 +7,13 @@ ghost use Rattle.port_timing.specs.Sending.{ended, resolved, round_after, goes_o
 use answers::{Answer, Refusal};
 use page_resolve::{answer_to, resolve};
 use page_word::{NULL_MESSAGE, next_after, sets_next_page};
-use port_state::{
-    Device, Reply, Round, State, answered, held_in_round, own_in_round, with_count, with_loaded,
-    with_mark, with_out, with_outcome, with_own_next, with_round, with_state, with_timer,
-};
+use port_state::{Device, Reply, Round, State, answered, held_in_round, own_in_round};
 
 // The page is no longer out, and the mark is "waiting", now.
 fn end(device: Device, reading: u32) -> Device
     ensures { result ≡ ended reading device }
 {
-    with_mark(with_out(device, false), false, reading)
+    device.with_out(false).with_mark(false, reading)
 }
 
 // Neither end has more to send: rate and role are resolved from the base pages, or refused, and the device goes to Check-link.
@@ -24,9 +21,11 @@ fn settle(device: Device, reading: u32) -> Reply
     ensures { Meets result (resolved rate_order reading device) }
 {
     let resolution = resolve(device.link.talk.own, device.link.talk.held);
-    let started = with_timer(device, reading);
-    let kept = with_outcome(started, Some(resolution));
-    answered(answer_to(resolution), with_state(kept, State::CheckLink))
+    let settled = device
+        .with_timer(reading)
+        .with_outcome(Some(resolution))
+        .with_state(State::CheckLink);
+    answered(answer_to(resolution), settled)
 }
 
 // The round in which the next own page is sent.
@@ -43,11 +42,10 @@ fn round_after(round: Round) -> Round
 fn go_on(device: Device, word: u64) -> Device
     ensures { result ≡ goes_on word device }
 {
-    let owning = with_own_next(device, next_after(own_in_round(device.link), word));
-    with_state(
-        with_round(owning, round_after(device.link.next.round)),
-        State::Ability,
-    )
+    device
+        .with_own_next(next_after(own_in_round(device.link), word))
+        .with_round(round_after(device.link.next.round))
+        .with_state(State::Ability)
 }
 
 // One end has more to send. The loaded page is next; an end that has said all sends the Null message; one that has announced a page and has none
@@ -57,7 +55,7 @@ fn next_or_null(device: Device) -> Device
     ensures { result ≡ next_or_null device }
 {
     if device.link.next.loaded {
-        return go_on(with_loaded(device, false), device.link.next.transmit);
+        return go_on(device.with_loaded(false), device.link.next.transmit);
     }
     if sets_next_page(own_in_round(device.link)) {
         return device;
@@ -82,11 +80,11 @@ fn count(device: Device, reading: u32) -> Reply
     ensures { Meets result (counted rate_order reading device) }
 {
     if 2 <= device.link.talk.count {
-        return decide(with_count(device, 3), reading);
+        return decide(device.with_count(3), reading);
     }
     answered(
         Answer::Nothing,
-        with_count(device, device.link.talk.count + 1),
+        device.with_count(device.link.talk.count + 1),
     )
 }
 

@@ -9,19 +9,18 @@ use crate::profile::{Profile, inhibit_of, low_speed, run_out};
 use answers::Answer;
 use line_mode::time_between;
 use line_reader::Reader;
-use port_state::{
-    Device, Reply, State, answered, enter_break, is_base, own_in_round, with_mark, with_out,
-    with_own, with_reader, with_state,
-};
+use port_state::{Device, Reply, State, answered, enter_break, is_base, own_in_round};
 
 // The break is over: the own page is made, and the device goes to Ability.
 fn leave_break(device: Device, reading: u32, draw: u64) -> Device
     ensures { result ≡ leaves_break reading draw device }
 {
     let own = own_page(device.lasting.advertised, draw, device.link.next.loaded);
-    let owning = with_own(device, own);
-    let waiting = with_mark(owning, false, reading);
-    with_state(with_reader(waiting, Reader::Fresh), State::Ability)
+    device
+        .with_own(own)
+        .with_mark(false, reading)
+        .with_reader(Reader::Fresh)
+        .with_state(State::Ability)
 }
 
 // Whether an attempt is open whose last edge is too young for an order.
@@ -55,7 +54,7 @@ fn order(profile: Profile, device: Device, word: u64, reading: u32) -> Reply
     ensures { Meets result (orders profile reading word device) }
 {
     if may_order(profile, device, reading) {
-        return answered(Answer::Order(word), with_out(device, true));
+        return answered(Answer::Order(word), device.with_out(true));
     }
     answered(Answer::Nothing, device)
 }

@@ -9,23 +9,24 @@ use line_reader::Reader;
 use lines::tell;
 use page_resolve::Settled;
 use page_word::WIDE;
-use port_state::{
-    Device, Round, State, with_count, with_held, with_out, with_outcome, with_own, with_own_next,
-    with_reader, with_round, with_state,
-};
+use port_state::{Device, Round, State};
 use port_step::Event;
 use std::io;
 
 // A device in Complete with a page out, these two pages and this count.
 fn complete(own: u64, held: u64, count: u32) -> Device {
-    let paged = with_held(with_own(Device::fresh(), own), held);
-    with_state(with_out(with_count(paged, count), true), State::Complete)
+    Device::fresh()
+        .with_own(own)
+        .with_held(held)
+        .with_count(count)
+        .with_out(true)
+        .with_state(State::Complete)
 }
 
 // The same at round first, where no device is in Complete.
 fn complete_at_round_first() -> Device {
     let device = complete(0x850001, 0x898001, 2);
-    with_round(with_own_next(device, 0x2801), Round::First)
+    device.with_own_next(0x2801).with_round(Round::First)
 }
 
 // A device in Up, settled on 1000BASE-T1 as slave, with a page out.
@@ -34,8 +35,10 @@ fn up() -> Device {
         ability: 2,
         master: false,
     };
-    let device = with_outcome(Device::fresh(), Some(Ok(settled)));
-    with_state(with_out(device, true), State::Up)
+    Device::fresh()
+        .with_outcome(Some(Ok(settled)))
+        .with_out(true)
+        .with_state(State::Up)
 }
 
 // A device in Ability whose reader stands at position 156, where no page has a transition.
@@ -45,8 +48,10 @@ fn open_at_156() -> Device {
         last: 0,
         bits: 0,
     };
-    let device = with_reader(with_own(Device::fresh(), 0x850001), reader);
-    with_state(device, State::Ability)
+    Device::fresh()
+        .with_own(0x850001)
+        .with_reader(reader)
+        .with_state(State::Ability)
 }
 
 // A page is sent.
