@@ -66,6 +66,7 @@ impl LineMode {
 
     // How many positions a gap counts as, or that it is quiet, or unfit. Each window begins one spacing after the last; how far into it the gap
     // reaches is a number above every width, by wrapping, where it does not reach it.
+    #[inline(always)]
     pub fn judgement(self, gap: u32) -> Judgement
         ensures { result ≡ judgement_of self gap }
     {

@@ -26,6 +26,7 @@ pub struct Step {
 }
 
 // The edge opens an attempt.
+#[inline(always)]
 fn opened(heard: Heard, reading: u32) -> Step
     ensures { result ≡ step heard (Open 1 reading 0) }
 {
@@ -40,6 +41,7 @@ fn opened(heard: Heard, reading: u32) -> Step
 }
 
 // Edges are dropped from here on.
+#[inline(always)]
 fn dropped(heard: Heard, reading: u32) -> Step
     ensures { result ≡ step heard (Dropping reading) }
 {
@@ -50,6 +52,7 @@ fn dropped(heard: Heard, reading: u32) -> Step
 }
 
 // The attempt goes on from a position.
+#[inline(always)]
 fn moved(at: u32, bits: u64, reading: u32) -> Step
     ensures { result ≡ step None (Open at reading bits) }
 {
@@ -74,6 +77,7 @@ fn whole(bits: u64, reading: u32) -> Step
 }
 
 // The bits with one more, after a clock. The newest bit is the highest, so after 64 the first is the lowest.
+#[inline(always)]
 fn with_bit(k: u32, bits: u64) -> u64
     ensures { result ≡ bits / 2 + (if k =? 1 then 2 ^ 63 else 0) }
 {
@@ -84,6 +88,7 @@ fn with_bit(k: u32, bits: u64) -> u64
 }
 
 // An edge so many positions after the last one of an attempt: in the delimiter, among clocks and bits, or at the end.
+#[inline(always)]
 fn step_on(mode: LineMode, at: u32, k: u32, bits: u64, reading: u32) -> Step
     requires { (1 ≤ k) × (k ≤ 4) }
     ensures { result ≡ goes_on mode at bits reading (Positions k) }
@@ -117,6 +122,7 @@ fn step_on(mode: LineMode, at: u32, k: u32, bits: u64, reading: u32) -> Step
 
 // A further edge of an attempt. Captures and devices share this body: small as it is, the compiler lays it into both their loops.
 #[tactic(auto, unfolding(crate::specs::Reading::edge_of, crate::specs::Reading::goes_on))]
+#[inline(always)]
 pub fn go_on(mode: LineMode, at: u32, last: u32, bits: u64, reading: u32) -> Step
     ensures { result ≡ edge_of mode (Open at last bits) reading }
 {
@@ -128,6 +134,7 @@ pub fn go_on(mode: LineMode, at: u32, last: u32, bits: u64, reading: u32) -> Ste
 }
 
 // The first edge of a fresh reader.
+#[inline(always)]
 pub fn open_on(reading: u32) -> Step
     ensures { result ≡ step None (opening reading) }
 {
@@ -136,6 +143,7 @@ pub fn open_on(reading: u32) -> Step
 
 // An edge after an attempt has ended.
 #[tactic(auto, unfolding(crate::specs::Reading::edge_of, crate::specs::Reading::drops_on))]
+#[inline(always)]
 pub fn drop_on(mode: LineMode, last: u32, reading: u32) -> Step
     ensures { result ≡ edge_of mode (Dropping last) reading }
 {
