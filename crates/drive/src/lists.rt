@@ -89,20 +89,12 @@ pub(crate) fn edges(alloc: Global, mode: u64, readings: &[u64]) -> Result<Vec<u6
     Ok(told)
 }
 
-fn counted(answer: &Answer) -> usize {
-    match answer {
-        Answer::Number(number) => *number as usize,
-        _ => 0,
-    }
-}
-
 // Operation 8: the answer, and three cells for each message.
 pub(crate) fn messages(alloc: Global, pages: &[u64]) -> Result<Vec<u64>, AllocError> {
     let mut found = [0; MOST_MESSAGE_CELLS];
-    let answer = Answer::from(page_messages::messages(pages, &mut found));
-    let count = counted(&answer);
-    let mut told = one(alloc, answer)?;
-    for message in found.chunks_exact(MESSAGE_CELLS).take(count) {
+    let counted = page_messages::messages(pages, &mut found);
+    let mut told = one(alloc, Answer::from(counted))?;
+    for message in found.chunks_exact(MESSAGE_CELLS).take(counted.unwrap_or(0)) {
         told.extend_from_slice(message)?;
     }
     Ok(told)
@@ -116,16 +108,15 @@ pub(crate) fn parity_take(
 ) -> Result<Vec<u64>, AllocError> {
     let mut state: Vec<u16> = state.iter().copied().map(symbol_of).collect(alloc)?;
     let burst: Vec<u16> = burst.iter().copied().map(symbol_of).collect(alloc)?;
-    let answer = Answer::from(frame_parity::take_burst(&mut state, &burst));
-    with_list(alloc, answer, &state)
+    let counted = frame_parity::take_burst(&mut state, &burst);
+    with_list(alloc, Answer::from(counted), &state)
 }
 
 // Operation 10: the answer, and the parity symbols unless it is a refusal.
 pub(crate) fn parity_finish(alloc: Global, state: &[u64]) -> Result<Vec<u64>, AllocError> {
     let state: Vec<u16> = state.iter().copied().map(symbol_of).collect(alloc)?;
     let mut parity = [0u16; PARITY_SYMBOLS];
-    match frame_parity::finish(&state, &mut parity) {
-        Ok(count) => with_list(alloc, Answer::from(Ok(count)), &parity),
-        Err(refusal) => one(alloc, Answer::Refused(refusal)),
-    }
+    let counted = frame_parity::finish(&state, &mut parity);
+    let symbols: &[u16] = if counted.is_ok() { &parity } else { &[] };
+    with_list(alloc, Answer::from(counted), symbols)
 }
