@@ -49,11 +49,17 @@ module _ (m : LineMode) (list : List ℕ) (place w first : ℕ) where
         least true = omega arith
         least false = omega arith
 
+    pub past : length list < place → Outcome (refused Room) list
+    past h = let e = has_edges in short (omega arith)
+
     -- The number of transitions, as the code has found it.
     module _ (count : ℕ) (counted : count ≡ length (transitions m w)) where
       pub no_room : length list < place + count → Outcome (refused Room) list
       unfolding edge_count
       no_room h = short (subst (λ (n : ℕ). length list < place + n) counted h)
+
+      pub too_few : length list - place < count → Outcome (refused Room) list
+      too_few h = no_room (omega arith)
 
       module _ (room : count ≤ length list - place) where
         -- The part of the list that is lent is its tail, and has room for the page.
