@@ -39,7 +39,7 @@ impl<'a> Text<'a> {
         self.length = length;
     }
 
-    // A number in decimal.
+    // A number in decimal. (The kit's io puts digits into a list that it is lent, and there is no heap here.)
     fn put_decimal(&mut self, number: usize)
         requires { (number < 10000) × HasRoom self.old 4 }
         ensures text { Adds self.old (decimal number) self.new }
@@ -61,7 +61,7 @@ impl<'a> Text<'a> {
         self.put(&digits[..count]);
     }
 
-    // The name of mode 0 or 1.
+    // The name of mode 0 or 1, which stays a number as line_captures::read takes it.
     fn put_mode(&mut self, mode: u32)
         requires { HasRoom self.old 3 }
         ensures text { Adds self.old (mode_name mode) self.new }
