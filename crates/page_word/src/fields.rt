@@ -55,7 +55,7 @@ pub fn get(word: u64, field: Field) -> u64
     }
 }
 
-// The word with a field set to a value modulo the field's size.
+// The word with a field set to a value modulo the field's size. (Each of the two has its own table of the fields: wrong answers as `ack_set_at_remote_fault` are of one of them alone.)
 pub fn set(word: u64, field: Field, value: u64) -> u64
     ensures { result ≡ with_field field value word }
 {

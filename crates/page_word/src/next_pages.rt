@@ -25,10 +25,7 @@ pub fn same_toggle(word: u64, other: u64) -> bool
 fn inverse_toggle(before: u64) -> u64
     ensures { result ≡ inverse_toggle before }
 {
-    if part(before, 11, 1) == 1 {
-        return 0;
-    }
-    1
+    if part(before, 11, 1) == 1 { 0 } else { 1 }
 }
 
 // A word as the Next Page that follows another page.
