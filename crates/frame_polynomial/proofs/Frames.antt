@@ -110,9 +110,6 @@ no_others f all l z = subst IsFrame (sym same) whole
     b : Symbols f
     b = as_symbols f all
 
-    sent_long : length (take 406 f) ≡ 406
-    sent_long = length-take-le 406 f (omega arith)
-
     rest_long : length (drop 406 f) ≡ 44
     rest_long = let d = length-drop 406 f in omega arith
 
