@@ -1,5 +1,6 @@
 // The two readers of a run: the reader of a message hands over to the reader of its unformatted pages, which hands back at the next message. They call
-// one another, and end: whenever the first hands over it has read a page, so the number of unread pages falls. The run is only read.
+// one another, as `Readers` of specs/ has it, and are no loop for that reason; and they end: whenever the first hands over it has read a page, so the number of unread pages falls. The run
+// is only read.
 ghost use Rattle.std.specs.Prelude.{◌≡◌, true, ◌+◌, ◌*◌, ◌≤◌, ◌<◌, length, drop, get_or, take_while, not};
 ghost use Rattle.std.proofs.lemmas.List.Edits.{sets};
 ghost use Rattle.page_messages.specs.Messages.{is_message_page, messages_in};
