@@ -1,3 +1,4 @@
+pub mod FromFn
 pub mod Putting
 pub mod RowLaws
 pub mod RegisterLaws

@@ -1,76 +1,52 @@
 -- Rows of 44 symbols: times alpha, sums, and the table of them.
 use mathlib.Core.Path.{◌≡◌, refl, sym, ap, ap₂, ◌∙◌, subst}
 use mathlib.Core.Bool.{true, xor}
-use mathlib.Core.List.{List, [], ◌∷◌, ◌++◌, append-nil}
+use mathlib.Core.List.{List, [], ◌∷◌}
 use Prim.Native.Nat.{ℕ, zero, suc, ◌+◌, ◌*◌, ◌/◌, ◌%◌, ◌^◌, ◌≤◌, ◌<◌}
 use native.Mathlib.Nat.{not-suc-le-zero, mul-one, add-zero}
 use native.Mathlib.Omega.{arith}
 use lib.Dec.{eqb}
 use lib.Bits.{bit_xor, xor_zero_r, xor_lt}
-use lib.ListN.{length, length-map, take, drop, drop_of_length-le, set, get_or, replicate}
-use lib.Seq.{take_all}
+use lib.ListN.{length, length-map, get_or, replicate}
 use borrow.Author.Tests.{eqb-true}
 use Rattle.page_word.proofs.ComputedTest.{every_below, at_each}
 use Rattle.polynomials.specs.Polynomials.{plus, scaled}
-use Rattle.polynomials.proofs.Sums.{plus_length, plus_at, scaled_at}
+use Rattle.polynomials.proofs.Sums.{plus_length, scaled_at}
 use Rattle.frame_field.specs.Field.{◌⊕◌, ◌⊗◌, alpha, symbols}
-use Rattle.frame_field.proofs.ExclusiveOr.{symbol_sums}
 use Rattle.frame_field.proofs.TimesAlpha.{times_alpha}
 use Rattle.frame_field.proofs.Products.{product_comm, product_assoc, product_one, product_zero, product_alpha, sum_over}
 use Rattle.frame_polynomial.proofs.SymbolLists.{Symbols, as_symbols, all_symbols_law, scaled_symbols, symbol_at}
 use Rattle.frame_polynomial.proofs.Roots.{lower, lower_long, lower_symbols}
 use Rattle.frame_polynomial.proofs.GeneratorList.{lower_list, lower_list_law}
 use Rattle.frame_parity.specs.Working.{Row, RowTimes, RowSum, factor_of, rows_from, rows_of}
-use Rattle.frame_parity.proofs.Putting.{put_more}
 
 -- ---- a symbol times alpha
 alpha_times : (x : ℕ) → x < 512 → alpha ⊗ x ≡ times_alpha x
 alpha_times x h = product_comm alpha x (omega arith) h ∙ product_alpha x h
 
-pub low_alpha : (x : ℕ) → x < 256 → x * 2 ≡ alpha ⊗ x
+pub low_alpha : (x : ℕ) → x < 256 → x * 2 ^ 1 % 2 ^ 16 ≡ alpha ⊗ x
 unfolding times_alpha
-low_alpha x h = sym (alpha_times x (omega arith) ∙ ap (λ (b : ℕ). (x * 2) ⊕ (b * 529)) (let e : x / 256 % 2 ≡ 0 = omega arith in e) ∙ xor_zero_r (x * 2))
+low_alpha x h = sym (alpha_times x (omega arith) ∙ ap (λ (b : ℕ). (x * 2) ⊕ (b * 529)) (let e : x / 256 % 2 ≡ 0 = omega arith in e) ∙ xor_zero_r (x * 2) ∙ omega arith)
 
-pub high_alpha : (x : ℕ) → 256 ≤ x → x < 512 → bit_xor (x * 2) 529 ≡ alpha ⊗ x
+pub high_alpha : (x : ℕ) → 256 ≤ x → x < 512 → bit_xor (x * 2 ^ 1 % 2 ^ 16) 529 ≡ alpha ⊗ x
 unfolding times_alpha
-high_alpha x h k = sym (alpha_times x k ∙ ap (λ (b : ℕ). (x * 2) ⊕ (b * 529)) (let e : x / 256 % 2 ≡ 1 = omega arith in e))
+high_alpha x h k =
+    ap (λ (d : ℕ). bit_xor d 529) (let e : x * 2 ^ 1 % 2 ^ 16 ≡ x * 2 = omega arith in e)
+    ∙ sym (alpha_times x k ∙ ap (λ (b : ℕ). (x * 2) ⊕ (b * 529)) (let e : x / 256 % 2 ≡ 1 = omega arith in e))
 
 -- ---- a row times alpha
 pub row_symbol : (row : List ℕ) (at : ℕ) → Row row → at < 44 → get_or row at 0 < 512
 row_symbol row at r h = symbol_at row at (as_symbols row r.all) (let l = r.long in omega arith)
 
-scaled_long : (c : ℕ) (row : List ℕ) → Row row → length (scaled symbols c row) ≡ 44
-scaled_long c row r = length-map row (symbols.product c) ∙ r.long
+pub scaled_row : (c : ℕ) (row : List ℕ) → Row row → Row (scaled symbols c row)
+scaled_row c row r = record { long = length-map row (symbols.product c) ∙ r.long; all = all_symbols_law (scaled symbols c row) (scaled_symbols c row) }
 
-pub alpha_more : (row out : List ℕ) (at value : ℕ) → Row row → out ≡ take at (scaled symbols alpha row) ++ drop at (replicate 44 0) → at < 44
-    → value ≡ alpha ⊗ get_or row at 0 → set out at value ≡ take (at + 1) (scaled symbols alpha row) ++ drop (at + 1) (replicate 44 0)
-alpha_more row out at value r p h e =
-    put_more (scaled symbols alpha row) (replicate 44 0) out at value p (let l = scaled_long alpha row r in omega arith) (omega arith) (e ∙ sym (scaled_at symbols alpha row at 0 (let l = r.long in omega arith)))
-
-filled : (entries out : List ℕ) (at : ℕ) → length entries ≡ 44 → out ≡ take at entries ++ drop at (replicate 44 0) → 44 ≤ at → out ≡ entries
-filled entries out at l p h = p ∙ ap₂ ◌++◌ (take_all at entries (omega arith)) (drop_of_length-le (replicate 44 0) h) ∙ append-nil entries
-
-pub alpha_done : (row out : List ℕ) (at : ℕ) → Row row → out ≡ take at (scaled symbols alpha row) ++ drop at (replicate 44 0) → 44 ≤ at → RowTimes alpha row out
-alpha_done row out at r p h = record { is = e; fit = subst Row (sym e) (record { long = scaled_long alpha row r; all = all_symbols_law (scaled symbols alpha row) (scaled_symbols alpha row) }) }
-  where
-    e : out ≡ scaled symbols alpha row
-    e = filled (scaled symbols alpha row) out at (scaled_long alpha row r) p h
+pub scaled_symbol : (c : ℕ) (row : List ℕ) → Row row → (at : ℕ) → at < 44 → get_or (scaled symbols c row) at 0 ≡ c ⊗ get_or row at 0
+scaled_symbol c row r at h = scaled_at symbols c row at 0 (let l = r.long in omega arith)
 
 -- ---- the sum of two rows
-sum_long : (one other : List ℕ) → length one ≡ 44 → length other ≡ 44 → length (plus symbols one other) ≡ 44
+pub sum_long : (one other : List ℕ) → length one ≡ 44 → length other ≡ 44 → length (plus symbols one other) ≡ 44
 sum_long one other h k = plus_length symbols one other (omega arith) ∙ k
-
-pub sum_more : (one other out : List ℕ) (at : ℕ) → length one ≡ 44 → length other ≡ 44 → out ≡ take at (plus symbols one other) ++ drop at (replicate 44 0) → at < 44
-    → set out at (get_or one at 0 ⊕ get_or other at 0) ≡ take (at + 1) (plus symbols one other) ++ drop (at + 1) (replicate 44 0)
-sum_more one other out at h k p l =
-    put_more (plus symbols one other) (replicate 44 0) out at (get_or one at 0 ⊕ get_or other at 0) p (let m = sum_long one other h k in omega arith) (omega arith) (sym (plus_at symbol_sums one other at (omega arith)))
-
-pub sum_done : (one other out : List ℕ) (at : ℕ) → length one ≡ 44 → length other ≡ 44 → out ≡ take at (plus symbols one other) ++ drop at (replicate 44 0) → 44 ≤ at
-    → RowSum one other out
-sum_done one other out at h k p l = record { is = e; long = ap length e ∙ sum_long one other h k }
-  where
-    e : out ≡ plus symbols one other
-    e = filled (plus symbols one other) out at (sum_long one other h k) p l
 
 -- ---- multiples of a row
 -- None, one, a multiple of a multiple, and the sum of two multiples.
@@ -99,18 +75,34 @@ doublings : every_below 256 (λ x. eqb (alpha ⊗ x) (x * 2)) ≡ true
 unfolding ◌⊗◌ xor
 doublings = refl
 
-pub doubled : (row next : List ℕ) (x : ℕ) → x < 256 → row ≡ scaled symbols x lower_list → next ≡ scaled symbols alpha row → next ≡ scaled symbols (x * 2) lower_list
-doubled row next x h e f =
-    f ∙ ap (scaled symbols alpha) e
-    ∙ times_times alpha x lower_list (omega arith) (omega arith) (as_symbols lower_list lower_row.all)
-    ∙ ap (λ (y : ℕ). scaled symbols y lower_list) (eqb-true (alpha ⊗ x) (x * 2) (at_each 256 (λ x. eqb (alpha ⊗ x) (x * 2)) doublings x h))
+-- A row that is a number times the generator,
+pub record Multiple (x : ℕ) (row : List ℕ) : Type 0 where
+  pub below : x < 512
+  pub is : row ≡ scaled symbols x lower_list
 
-pub added : (one other sum : List ℕ) (x y : ℕ) → x < 512 → y < 512 → one ≡ scaled symbols x lower_list → other ≡ scaled symbols y lower_list
-    → sum ≡ plus symbols one other → sum ≡ scaled symbols (x ⊕ y) lower_list
-added one other sum x y h k e f g = g ∙ ap₂ (plus symbols) e f ∙ times_sum x y lower_list h k (as_symbols lower_list lower_row.all)
+long : {x : ℕ} {row : List ℕ} → Multiple x row → length row ≡ 44
+long {x} {row} m = ap length m.is ∙ length-map lower_list (symbols.product x) ∙ lower_row.long
 
-pub first_row : lower_list ≡ scaled symbols 1 lower_list
-first_row = sym (one_time lower_list (as_symbols lower_list lower_row.all))
+-- doubled, and the sum of two.
+pub doubled : {x : ℕ} {row next : List ℕ} → Multiple x row → RowTimes alpha row next → x < 256 → Multiple (x * 2) next
+doubled {x} {row} {next} m t h =
+    record {
+      below = omega arith;
+      is =
+          t.is ∙ ap (scaled symbols alpha) m.is
+          ∙ times_times alpha x lower_list (omega arith) m.below (as_symbols lower_list lower_row.all)
+          ∙ ap (λ (y : ℕ). scaled symbols y lower_list) (eqb-true (alpha ⊗ x) (x * 2) (at_each 256 (λ x. eqb (alpha ⊗ x) (x * 2)) doublings x h));
+    }
+
+pub added : {x y : ℕ} {one other sum : List ℕ} → Multiple x one → Multiple y other → (length one ≡ 44 → length other ≡ 44 → RowSum one other sum) → Multiple (x ⊕ y) sum
+added {x} {y} {one} {other} {sum} m n s =
+    record {
+      below = xor_lt 9 x y m.below n.below;
+      is = (s (long m) (long n)).is ∙ ap₂ (plus symbols) m.is n.is ∙ times_sum x y lower_list m.below n.below (as_symbols lower_list lower_row.all);
+    }
+
+pub first_row : Multiple 1 lower_list
+first_row = record { below = omega arith; is = sym (one_time lower_list (as_symbols lower_list lower_row.all)) }
 
 pub zero_row : replicate 44 0 ≡ scaled symbols 0 lower_list
 zero_row = sym (no_times lower_list (as_symbols lower_list lower_row.all) ∙ ap (λ (n : ℕ). replicate n 0) lower_row.long)

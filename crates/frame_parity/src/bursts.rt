@@ -7,27 +7,25 @@ ghost use Rattle.frame_parity.specs.Working.{Fits};
 
 use crate::lists::{DATA_SYMBOLS, PARITY_SYMBOLS, STATE_ENTRIES, all_symbols, put_first};
 use crate::register::push_all;
+use crate::rows::table;
 use answers::Refusal;
 
 // The number of symbols after a burst, or Count. (A sum past the highest number of its type stays at that one, which is too many too.)
-fn count_after(state: &[u16], burst: &[u16]) -> Result<usize, Refusal>
-    requires { 45 ≤ length state.now }
-    ensures { MatchResult result (λ count. (count ≡ count_of state.now + length burst.now) × (count ≤ 406)) (λ refusal. (refusal ≡ Refusal.Count) × (406 < count_of state.now + length burst.now)) }
+fn count_after(taken: u16, burst: &[u16]) -> Result<usize, Refusal>
+    ensures { MatchResult result (λ count. (count ≡ taken + length burst.now) × (count ≤ 406)) (λ refusal. (refusal ≡ Refusal.Count) × (406 < taken + length burst.now)) }
 {
-    let taken = usize::from(state[PARITY_SYMBOLS]).saturating_add(burst.len());
-    if DATA_SYMBOLS < taken {
+    let count = usize::from(taken).saturating_add(burst.len());
+    if DATA_SYMBOLS < count {
         return Err(Refusal::Count);
     }
-    Ok(taken)
+    Ok(count)
 }
 
-// Whether register and burst are symbols.
-#[tactic(auto, using(crate::proofs::Answering::front))]
-fn only_symbols(state: &[u16], burst: &[u16]) -> bool
-    requires { 45 ≤ length state.now }
-    ensures { result ≡ (all_symbols (register_of state.now) && all_symbols burst.now) }
+// Whether a register and a burst are symbols.
+fn only_symbols(register: &[u16], burst: &[u16]) -> bool
+    ensures { result ≡ (all_symbols register.now && all_symbols burst.now) }
 {
-    all_symbols(&state[..PARITY_SYMBOLS]) && all_symbols(burst)
+    all_symbols(register) && all_symbols(burst)
 }
 
 // The register of a state, and a zero behind it.
@@ -47,14 +45,13 @@ fn take_in(state: &mut [u16], burst: &[u16], count: usize)
     requires { Fits state.old burst.now count }
     ensures { state.new ≡ put_at 0 (entries_after state.old burst.now) state.old }
 {
-    let register = register_in(state);
-    let mut pushed = push_all(register, burst);
+    let mut pushed = push_all(register_in(state), burst, table());
     pushed[PARITY_SYMBOLS] = count as u16;
     put_first(state, &pushed);
 }
 
 // Takes a burst into a lent state: the number of symbols taken so far.
-#[tactic(auto, using(crate::proofs::Answering::take_room, crate::proofs::Answering::take_past, crate::proofs::Answering::take_bad, crate::proofs::Answering::take_good, crate::proofs::Answering::fits))]
+#[tactic(auto, using(crate::proofs::Answering::front, crate::proofs::Answering::take_room, crate::proofs::Answering::take_past, crate::proofs::Answering::take_bad, crate::proofs::Answering::take_good, crate::proofs::Answering::fits))]
 pub fn take_burst(state: &mut [u16], burst: &[u16]) -> Result<usize, Refusal>
     ensures says { said_count result ≡ (take_of state.old burst.now).says }
     ensures leaves { state.new ≡ (take_of state.old burst.now).list }
@@ -62,10 +59,10 @@ pub fn take_burst(state: &mut [u16], burst: &[u16]) -> Result<usize, Refusal>
     if state.len() < STATE_ENTRIES {
         return Err(Refusal::Room);
     }
-    let count = count_after(state, burst)?;
-    if !only_symbols(state, burst) {
+    let taken = count_after(state[PARITY_SYMBOLS], burst)?;
+    if !only_symbols(&state[..PARITY_SYMBOLS], burst) {
         return Err(Refusal::Symbol);
     }
-    take_in(state, burst, count);
-    Ok(count)
+    take_in(state, burst, taken);
+    Ok(taken)
 }

@@ -12,25 +12,19 @@ pub(crate) const PARITY_SYMBOLS: usize = 44;
 // The data symbols of a frame.
 pub(crate) const DATA_SYMBOLS: usize = 406;
 
-// Whether numbers are symbols: just if all their bits, put into one number, make one below 512. No test leaves the loop, so that the compiler can take several numbers in a turn.
-#[tactic(auto, unfolding(frame_polynomial::specs::Frame::all_symbols), using(crate::proofs::Looking::looked_more, crate::proofs::Looking::looked_all))]
+// Whether numbers are symbols: just if all their bits, put into one number, make one below 512. No test ends the fold, as it would `all`, so that the compiler can take several numbers in a turn.
+#[tactic(auto, using(crate::proofs::Looking::looked_all))]
 pub(crate) fn all_symbols(list: &[u16]) -> bool
     ensures { result ≡ all_symbols list.now }
 {
-    let mut bits = 0u16;
-    for number in list {
-        bits |= *number;
-    }
-    bits < 512
+    list.iter().fold(0u16, |bits, number| bits | *number) < 512
 }
 
 // Puts entries over the first of a list.
-#[tactic(auto, using(crate::proofs::Putting::put_more, answers::proofs::PutAtStart::put_at_start))]
+#[tactic(auto, using(answers::proofs::PutAtStart::put_at_start))]
 pub(crate) fn put_first(list: &mut [u16], entries: &[u16])
     requires { length entries.now ≤ length list.old }
     ensures { list.new ≡ put_at 0 entries.now list.old }
 {
-    for (place, entry) in entries.iter().enumerate() {
-        list[place] = *entry;
-    }
+    list[..entries.len()].copy_from_slice(entries);
 }
