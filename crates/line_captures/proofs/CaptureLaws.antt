@@ -76,8 +76,10 @@ module _ (m : LineMode) (reader : Reader) (tail : List ℕ) (place start : ℕ) 
             ∙ ap₂ (λ (r : Reader) (n : ℕ). opens_at m r (drop (i + 1) tail) n) (sym e) (add_assoc place i 1);
       }
 
-  pub sought : length tail ≤ i → place + i ≡ opens_at m reader (drop start tail) (place + start)
-  sought h = sym (s.same ∙ opens_end m held tail (place + i) i h)
+  pub sought : length tail ≤ i → place + length tail ≡ opens_at m reader (drop start tail) (place + start)
+  sought h =
+      let most = s.most in
+      let all : place + length tail ≡ place + i = omega arith in all ∙ sym (s.same ∙ opens_end m held tail (place + i) i h)
 
 -- Looking for the end of the first attempt.
 pub record Trying (m : LineMode) (tail : List ℕ) (place : ℕ) (reader : Reader) (i : ℕ) : Type 0 where
@@ -108,8 +110,10 @@ module _ (m : LineMode) (tail : List ℕ) (place : ℕ) (reader : Reader) (i : �
       ∙ attempt_ends m reader (get_or tail i 0) (drop (i + 1) tail) (place + i) ending n
       ∙ ap₂ (λ (r : Reader) (k : ℕ). attempt ending (cond (is_open r) (place + i) (opens_at m r (drop (i + 1) tail) k))) (sym e) (add_assoc place i 1)
 
-  pub ran_out : length tail ≤ i → attempt_of m Fresh tail place ≡ attempt (Err Cut) (place + i)
-  ran_out h = t.same ∙ attempt_end m reader tail (place + i) i h
+  pub ran_out : length tail ≤ i → attempt_of m Fresh tail place ≡ attempt (Err Cut) (place + length tail)
+  ran_out h =
+      let most = t.most in
+      let all : place + i ≡ place + length tail = omega arith in t.same ∙ attempt_end m reader tail (place + i) i h ∙ ap (attempt (Err Cut)) all
 
 -- The first edge opens the attempt,
 pub try_first : (m : LineMode) (tail : List ℕ) (place : ℕ) → 1 ≤ length tail → Trying m tail place (Open 1 (get_or tail 0 0) 0) 1
@@ -135,19 +139,24 @@ still_open m at bits x (Positions k) h = by (asks m at k) (eqb (at + k) 157) h
     by false e h = absurd (let z : ◌≡◌ {A = ℕ} 0 1 = cc h in omega arith)
 
 module _ (m : LineMode) (tail : List ℕ) (place at last bits i : ℕ) (t : Trying m tail place (Open at last bits) i) (h : i < length tail) where
-  -- So the attempt's numbers after it are those that its reader holds.
-  pub try_further : (s : Step) → s ≡ edge_of m (Open at last bits) (get_or tail i 0) → s.heard ≡ None
-      → (p b : ℕ) → ((a l c : ℕ) → s.reader ≡ Open a l c → p ≡ a) → ((a l c : ℕ) → s.reader ≡ Open a l c → b ≡ c)
-      → Trying m tail place (Open p (get_or tail i 0) b) (i + 1)
-  unfolding edge_of
-  try_further s e n p b position bits-held =
-      let heard = ap (λ (q : Step). q.heard) (sym e) ∙ n in
-      let o = still_open m at bits (get_or tail i 0) (judgement_of m (time_between (get_or tail i 0) last)) heard in
-      let holds = ap (λ (q : Step). q.reader) e ∙ o.is in
-      try_on m tail place (Open at last bits) i t (Open p (get_or tail i 0) b)
-      (ap₂ (λ (a c : ℕ). Open a (get_or tail i 0) c) (position o.at (get_or tail i 0) o.bits holds) (bits-held o.at (get_or tail i 0) o.bits holds)
-      ∙ sym o.is)
-      heard h
+  module _ (s : Step) (e : s ≡ edge_of m (Open at last bits) (get_or tail i 0)) (n : s.heard ≡ None) where
+    held : StillOpen (get_or tail i 0) s.reader
+    unfolding edge_of
+    held =
+        let o = still_open m at bits (get_or tail i 0) (judgement_of m (time_between (get_or tail i 0) last)) (ap (λ (q : Step). q.heard) (sym e) ∙ n) in
+        record { at = o.at; bits = o.bits; is = ap (λ (q : Step). q.reader) e ∙ o.is }
+
+    -- So the attempt's numbers after it are those that its reader holds,
+    pub try_further : (p l b : ℕ) → s.reader ≡ Open p l b → Trying m tail place (Open p (get_or tail i 0) b) (i + 1)
+    try_further p l b holds =
+        let same : Open p l b ≡ Open held.at (get_or tail i 0) held.bits = sym holds ∙ held.is in
+        let reading : l ≡ get_or tail i 0 = cc same in
+        try_on m tail place (Open at last bits) i t (Open p (get_or tail i 0) b)
+        (ap (λ (x : ℕ). Open p x b) (sym reading) ∙ sym holds ∙ ap (λ (q : Step). q.reader) e) (ap (λ (q : Step). q.heard) (sym e) ∙ n) h
+
+    -- and it holds some.
+    pub holds_numbers : ((p l b : ℕ) → s.reader ≡ Open p l b → ⊥) → ⊥
+    holds_numbers none = none held.at (get_or tail i 0) held.bits held.is
 
 -- While edges are dropped: each that opens nothing is the one before the next.
 pub drops : (m : LineMode) (last x : ℕ) → edge_of m (Dropping last) x ≡ drops_on x (judgement_of m (time_between x last))

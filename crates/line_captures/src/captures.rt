@@ -1,12 +1,12 @@
 // Captures: the first attempt from a place on, and where the next one opens.
 ghost use Rattle.std.specs.Prelude.{◌≡◌, ℕ, ◌+◌, ◌≤◌, length, drop, if◌then◌else◌};
 ghost use Rattle.answers.specs.Answers.{said};
-ghost use Rattle.line_reader.specs.declared.reader.Reader.TheVariants.{Fresh, Open, Dropping};
+ghost use Rattle.line_reader.specs.declared.reader.Reader.TheVariants.{Fresh, Dropping};
 ghost use Rattle.line_captures.specs.Captures.{is_open, opens_at, attempt_of, read_in, read_of, said_of_read};
 
 use answers::{Answer, Refusal};
 use line_mode::{LineMode, mode_of};
-use line_reader::{Broken, Ending, Reader, answer_to_ending, drop_on, go_on};
+use line_reader::{Broken, Ending, Reader, Step, answer_to_ending, drop_on, go_on};
 
 // An attempt of a capture: how it ends, and where the next one opens.
 #[derive(Clone, Copy)]
@@ -44,18 +44,14 @@ fn opens_at(tail: &[u32], place: usize, from: usize, mode: LineMode, last: u32) 
     ensures { result ≡ opens_at mode (Dropping last) (drop from tail.now) (place + from) }
 {
     let mut before = last;
-    let mut i = from;
-    while i < tail.len() {
+    for i in from..tail.len() {
         let reading = tail[i];
-        let step = drop_on(mode, before, reading);
-        let after = step.reader;
-        if is_open(after) {
+        if is_open(drop_on(mode, before, reading).reader) {
             return place + i;
         }
         before = reading;
-        i += 1;
     }
-    place + i
+    place + tail.len()
 }
 
 // Where the next attempt opens once one has ended at an edge: the edge may have opened it, else a later one does.
@@ -65,30 +61,8 @@ fn next_opens(tail: &[u32], place: usize, i: usize, mode: LineMode, reader: Read
 {
     match reader {
         Reader::Fresh => place + (i + 1),
-        Reader::Open { at, last, bits } => place + i,
+        Reader::Open { .. } => place + i,
         Reader::Dropping { last } => opens_at(tail, place, i + 1, mode, last),
-    }
-}
-
-// The position of an open attempt's last edge.
-fn position_of(reader: Reader) -> u32
-    ensures { (at last bits : ℕ) → reader ≡ Open at last bits → result ≡ at }
-{
-    match reader {
-        Reader::Fresh => 0,
-        Reader::Open { at, last, bits } => at,
-        Reader::Dropping { last } => 0,
-    }
-}
-
-// The bits of an open attempt.
-fn bits_of(reader: Reader) -> u64
-    ensures { (at last bits : ℕ) → reader ≡ Open at last bits → result ≡ bits }
-{
-    match reader {
-        Reader::Fresh => 0,
-        Reader::Open { at, last, bits } => bits,
-        Reader::Dropping { last } => 0,
     }
 }
 
@@ -98,32 +72,32 @@ fn first_attempt(tail: &[u32], place: usize, mode: LineMode) -> Attempt
     requires { (1 ≤ length tail.now) × (place + length tail.now ≤ 18446744073709551615) }
     ensures { Ok (Some result) ≡ attempt_of mode Fresh tail.now place }
 {
-    let mut at: u32 = 1;
+    let mut at = 1;
     let mut last = tail[0];
-    let mut bits: u64 = 0;
-    let mut i: usize = 1;
-    while i < tail.len() {
+    let mut bits = 0;
+    for i in 1..tail.len() {
         let reading = tail[i];
-        let step = go_on(mode, at, last, bits, reading);
-        let reader = step.reader;
-        let heard = step.heard;
-        match heard {
-            None => {}
-            Some(ending) => {
-                return Attempt {
-                    ending,
-                    next: next_opens(tail, place, i, mode, reader),
-                };
-            }
+        let Step { heard, reader } = go_on(mode, at, last, bits, reading);
+        if let Some(ending) = heard {
+            return Attempt {
+                ending,
+                next: next_opens(tail, place, i, mode, reader),
+            };
         }
-        at = position_of(reader);
+        if let Reader::Open {
+            at: next,
+            bits: more,
+            ..
+        } = reader
+        {
+            at = next;
+            bits = more;
+        }
         last = reading;
-        bits = bits_of(reader);
-        i += 1;
     }
     Attempt {
         ending: Err(Broken::Cut),
-        next: place + i,
+        next: place + tail.len(),
     }
 }
 

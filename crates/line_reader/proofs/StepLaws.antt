@@ -26,10 +26,9 @@ module _ (m : LineMode) (at k bits reading : ℕ) where
     unfolding goes_on arrives
     in_start l h = rw (h, no_clock_start at l, ne_eqb (at + k) 157 (λ e. omega arith))
 
-    pub at_bit : 26 < at → at ≤ 154 → at % 2 ≡ 0 → k ≡ 1 → step None (Open (at + 1) reading bits) ≡ goes_on m at bits reading (Positions k)
+    pub at_bit : 26 < at → at ≤ 154 → at % 2 ≡ 0 → k ≡ 1 → step None (Open (at + k) reading bits) ≡ goes_on m at bits reading (Positions k)
     unfolding goes_on arrives
-    at_bit h l e o =
-        rw (after_bit m at k s h l e ∙ eq-eqb k 1 o, no_clock_even at e, ne_eqb (at + k) 157 (λ q. omega arith)) (ap (λ (n : ℕ). step None (Open (at + n) reading bits)) (sym o))
+    at_bit h l e o = rw (after_bit m at k s h l e ∙ eq-eqb k 1 o, no_clock_even at e, ne_eqb (at + k) 157 (λ q. omega arith))
 
     pub at_clock : 26 < at → at ≤ 153 → at % 2 ≡ 1 → k ≤ 2
         → step None (Open (at + k) reading (bits / 2 + cond (eqb k 1) (2 ^ 63) 0)) ≡ goes_on m at bits reading (Positions k)

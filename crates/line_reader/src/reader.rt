@@ -31,7 +31,7 @@ fn opened(heard: Heard, reading: u32) -> Step
     ensures { result ≡ step heard (Open 1 reading 0) }
 {
     Step {
-        heard: heard,
+        heard,
         reader: Reader::Open {
             at: 1,
             last: reading,
@@ -46,7 +46,7 @@ fn dropped(heard: Heard, reading: u32) -> Step
     ensures { result ≡ step heard (Dropping reading) }
 {
     Step {
-        heard: heard,
+        heard,
         reader: Reader::Dropping { last: reading },
     }
 }
@@ -59,9 +59,9 @@ fn moved(at: u32, bits: u64, reading: u32) -> Step
     Step {
         heard: None,
         reader: Reader::Open {
-            at: at,
+            at,
             last: reading,
-            bits: bits,
+            bits,
         },
     }
 }
@@ -70,10 +70,12 @@ fn moved(at: u32, bits: u64, reading: u32) -> Step
 fn whole(bits: u64, reading: u32) -> Step
     ensures { result ≡ step (Some (page_end bits)) (Dropping reading) }
 {
-    if page_check_bits::bits_agree(bits) {
-        return dropped(Some(Ok(bits % page_word::WIDE)), reading);
-    }
-    dropped(Some(Err(Broken::Check)), reading)
+    let ending = if page_check_bits::bits_agree(bits) {
+        Ok(bits % page_word::WIDE)
+    } else {
+        Err(Broken::Check)
+    };
+    dropped(Some(ending), reading)
 }
 
 // The bits with one more, after a clock. The newest bit is the highest, so after 64 the first is the lowest.
@@ -93,34 +95,16 @@ fn step_on(mode: LineMode, at: u32, k: u32, bits: u64, reading: u32) -> Step
     requires { (1 ≤ k) × (k ≤ 4) }
     ensures { result ≡ goes_on mode at bits reading (Positions k) }
 {
-    if at <= 26 {
-        if spans(line_page::start(mode), at, k) {
-            return moved(at + k, bits, reading);
-        }
-        return dropped(Some(Err(Broken::Gap)), reading);
+    match at {
+        0..=26 if spans(line_page::start(mode), at, k) => moved(at + k, bits, reading),
+        27..=154 if at % 2 == 0 && k == 1 => moved(at + k, bits, reading),
+        27..=154 if at % 2 == 1 && k <= 2 => moved(at + k, with_bit(k, bits), reading),
+        155 if k == 2 => whole(bits, reading),
+        _ => dropped(Some(Err(Broken::Gap)), reading),
     }
-    if at <= 154 {
-        if at % 2 == 0 {
-            if k == 1 {
-                return moved(at + 1, bits, reading);
-            }
-            return dropped(Some(Err(Broken::Gap)), reading);
-        }
-        if k <= 2 {
-            return moved(at + k, with_bit(k, bits), reading);
-        }
-        return dropped(Some(Err(Broken::Gap)), reading);
-    }
-    if at == 155 {
-        if k == 2 {
-            return whole(bits, reading);
-        }
-        return dropped(Some(Err(Broken::Gap)), reading);
-    }
-    dropped(Some(Err(Broken::Gap)), reading)
 }
 
-// A further edge of an attempt. Captures and devices share this body: small as it is, the compiler lays it into both their loops.
+// A further edge of an attempt. Captures and devices share this body, and it is laid into both their loops: through memory an edge costs twice as much.
 #[tactic(auto, unfolding(crate::specs::Reading::edge_of, crate::specs::Reading::goes_on))]
 #[inline(always)]
 pub fn go_on(mode: LineMode, at: u32, last: u32, bits: u64, reading: u32) -> Step
