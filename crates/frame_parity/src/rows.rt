@@ -36,7 +36,7 @@ fn row_sum(one: [u16; 44], other: [u16; 44]) -> [u16; 44]
 }
 
 // The lower coefficients times 0 to 7, times 0, 8, .. 56, and times 0, 64, .. 448. All of it in one function that is called once: so the compiler works most of it out. (A function for
-// eight rows, called three times, is not worked out: it has a burst of one symbol cost fifteen times as much, and needs the C library.)
+// eight rows, called three times, is not worked out: it has a burst of one symbol cost some fourteen times as much, and needs the C library.)
 pub(crate) fn table() -> [[u16; 44]; 24]
     ensures { result ≡ rows_of }
 {
