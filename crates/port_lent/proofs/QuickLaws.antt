@@ -1,15 +1,13 @@
 -- What is told quickly is what is due: of an edge, of a tick, of a read.
 use Rattle.std.specs.Bool.{then_some}
-use Rattle.std.specs.Prelude.{if◌then◌else◌, Option, Some, None, Ok, Err}
+use Rattle.std.specs.Prelude.{if◌then◌else◌, Some, None, Ok, Err}
 use Prim.Native.Nat.{ℕ}
 use mathlib.Core.Path.{◌≡◌, refl, sym, ap, ap₂, ◌∙◌, subst}
 use mathlib.Core.Bool.{Bool, true, false, not, ◌&&◌, ◌||◌, true≢false}
-use borrow.Author.Tests.{ne_eqb}
 use Rattle.answers.specs.Choices.{◌=?◌}
 use Rattle.answers.specs.Answers.{packed, nothing}
 use Rattle.answers.specs.Numbers.{refusal_of}
 use Rattle.page_resolve.specs.Resolving.{rate_and_role}
-use Rattle.line_mode.specs.declared.modes.LineMode.{LineMode}
 use Rattle.line_mode.specs.Modes.{lsm_mode}
 use Rattle.line_reader.specs.declared.endings.Broken.TheVariants.{Gap, Cut, Check}
 use Rattle.line_reader.specs.declared.reader.Reader.{Reader}
@@ -27,9 +25,9 @@ use Rattle.port_state.specs.PlainRecords.{is_set, state_of, reader_of, reader_nu
 use Rattle.port_state.proofs.PlainRecordLaws.{reader_back}
 use Rattle.port_hearing.specs.Edges.{hears, listened, edge_due}
 use Rattle.port_timing.specs.declared.profile.Profile.{Profile}
-use Rattle.port_timing.specs.Ticks.{run_out, low_speed, inhibit_at, inhibit_of, may_order, is_lost, orders, talks, tick_in, tick_due}
+use Rattle.port_timing.specs.Ticks.{low_speed, inhibit_at, inhibit_of, may_order, is_lost, orders, talks, tick_in, tick_due}
 use Rattle.port_lent.specs.declared.quick.Quick.{Quick}
-use Rattle.port_lent.specs.declared.quick.Quick.TheVariants.{Kept, Moved}
+use Rattle.port_lent.specs.declared.quick.Quick.TheVariants.{Kept}
 use Rattle.port_lent.specs.Lent.{Tells}
 use Rattle.port_lent.specs.Quickly.{with_reader_numbers, Fits, is_good}
 
@@ -62,56 +60,36 @@ reader_moved step answer numbers none said same plain reading =
     heard : listened step reading (device_of plain) ≡ due (said_of_heard step.heard) (with_reader step.reader (device_of plain))
     heard = no_page step.heard none reading (with_reader step.reader (device_of plain))
 
--- A tick that neither gives the link up nor orders a page does nothing,
-pub no_talk_law : (p : Profile) (reading word : ℕ) (d : Device) → (is_lost p reading d.link || may_order p reading d.link) ≡ false → talks p reading word d ≡ due nothing d
+-- A tick that neither gives the link up nor orders a page does nothing.
+pub idle_talk : (p : Profile) (reading word : ℕ) (d : Device) → (is_lost p reading d.link || may_order p reading d.link) ≡ false → talks p reading word d ≡ due nothing d
 unfolding talks orders
-no_talk_law p reading word d idle = by (is_lost p reading d.link) (may_order p reading d.link) refl refl idle
+idle_talk p reading word d idle = by (is_lost p reading d.link) (may_order p reading d.link) refl refl idle
   where
     by : (lost may : Bool) → is_lost p reading d.link ≡ lost → may_order p reading d.link ≡ may → (lost || may) ≡ false → talks p reading word d ≡ due nothing d
     by true may l m h = absurd (true≢false h)
     by false true l m h = absurd (true≢false h)
     by false false l m h = rw l (rw m refl)
 
--- in each state in which pages are traded.
+-- So it is in each state in which pages are traded.
 pub talking_idle : (state : State) (p : Profile) (reading draw : ℕ) (d : Device) → is_talking state ≡ true
     → (is_lost p reading d.link || may_order p reading d.link) ≡ false → tick_in state p reading draw d ≡ due nothing d
 talking_idle Off p reading draw d talking idle = absurd (true≢false (sym talking))
 talking_idle Break p reading draw d talking idle = absurd (true≢false (sym talking))
-talking_idle Ability p reading draw d talking idle = no_talk_law p reading _ d idle
-talking_idle Ack p reading draw d talking idle = no_talk_law p reading _ d idle
-talking_idle Complete p reading draw d talking idle = no_talk_law p reading _ d idle
+talking_idle Ability p reading draw d talking idle = idle_talk p reading _ d idle
+talking_idle Ack p reading draw d talking idle = idle_talk p reading _ d idle
+talking_idle Complete p reading draw d talking idle = idle_talk p reading _ d idle
 talking_idle CheckLink p reading draw d talking idle = absurd (true≢false (sym talking))
 talking_idle Up p reading draw d talking idle = absurd (true≢false (sym talking))
 
--- A state that is neither Break nor Check-link, by its number.
-abbrev by_tests : (a b c e : Bool) → State
-by_tests a b c e = if a then Ability else if b then Ack else if c then Complete else if e then Up else Off
-
-no_timer : (n : ℕ) → (n ≡ 1 → ⊥) → (n ≡ 5 → ⊥) → state_of n ≡ by_tests (n =? 2) (n =? 3) (n =? 4) (n =? 6)
-unfolding state_of
-no_timer n break check = simp (ne_eqb n 1 break, ne_eqb n 5 check)
-
--- Where neither pages are traded nor a timer runs, a tick does nothing.
-pub resting_idle : (n : ℕ) (p : Profile) (reading draw : ℕ) (d : Device) → (n ≡ 1 → ⊥) → (n ≡ 5 → ⊥) → is_talking (state_of n) ≡ false
-    → tick_in (state_of n) p reading draw d ≡ due nothing d
-resting_idle n p reading draw d break check =
-    subst (λ (s : State). is_talking s ≡ false → tick_in s p reading draw d ≡ due nothing d) (sym (no_timer n break check)) (by (n =? 2) (n =? 3) (n =? 4) (n =? 6))
-  where
-    by : (a b c e : Bool) → is_talking (by_tests a b c e) ≡ false → tick_in (by_tests a b c e) p reading draw d ≡ due nothing d
-    by true b c e resting = absurd (true≢false resting)
-    by false true c e resting = absurd (true≢false resting)
-    by false false true e resting = absurd (true≢false resting)
-    by false false false true resting = refl
-    by false false false false resting = refl
-
--- A timer that has not run out, in Break and in Check-link.
-pub break_idle : (plain : PlainRecord) (reading draw : ℕ) → plain.state ≡ 1 → run_out low_speed.breaking plain.timer reading ≡ false
+-- A state in which pages are traded.
+pub talking : (plain : PlainRecord) (reading draw : ℕ) → is_talking (state_of plain.state) ≡ true
+    → (is_lost low_speed reading (device_of plain).link || may_order low_speed reading (device_of plain).link) ≡ false
     → tick_due low_speed reading draw (device_of plain) ≡ due nothing (device_of plain)
-unfolding tick_due device_of state_of
-break_idle plain reading draw is runs = rw is (rw runs refl)
+unfolding tick_due device_of
+talking plain reading draw trades idle = talking_idle (state_of plain.state) low_speed reading draw (device_of plain) trades idle
 
 -- The inhibit time by the numbers of an outcome.
-inhibit_by : (kind ability : ℕ) (master : Bool) → inhibit_of (outcome_of kind ability master) ≡ inhibit_at (then_some (kind =? 0x82) ability)
+pub inhibit_by : (kind ability : ℕ) (master : Bool) → inhibit_of (outcome_of kind ability master) ≡ inhibit_at (then_some (kind =? 0x82) ability)
 unfolding outcome_of
 inhibit_by kind ability master = by (kind =? 0x82) (kind =? 0)
   where
@@ -121,35 +99,10 @@ inhibit_by kind ability master = by (kind =? 0x82) (kind =? 0)
     by false true = refl
     by false false = refl
 
-pub check_link_idle : (plain : PlainRecord) (reading draw : ℕ) (rate : Option ℕ) → plain.state ≡ 5
-    → rate ≡ then_some (plain.outcome =? 0x82) plain.ability → run_out (inhibit_at rate) plain.timer reading ≡ false
-    → tick_due low_speed reading draw (device_of plain) ≡ due nothing (device_of plain)
-unfolding tick_due device_of state_of
-check_link_idle plain reading draw rate is rated runs = rw is (rw (inhibit_by plain.outcome plain.ability (is_set plain.is_master)) (rw (sym rated) (rw runs refl)))
-
--- A state that is neither.
-pub resting : (plain : PlainRecord) (reading draw : ℕ) → (plain.state ≡ 1 → ⊥) → (plain.state ≡ 5 → ⊥) → is_talking (state_of plain.state) ≡ false
-    → tick_due low_speed reading draw (device_of plain) ≡ due nothing (device_of plain)
-unfolding tick_due device_of
-resting plain reading draw break check rests = resting_idle plain.state low_speed reading draw (device_of plain) break check rests
-
--- A state in which pages are traded.
-pub talking : (plain : PlainRecord) (reading draw : ℕ) → is_talking (state_of plain.state) ≡ true
-    → (is_lost low_speed reading (device_of plain).link || may_order low_speed reading (device_of plain).link) ≡ false
-    → tick_due low_speed reading draw (device_of plain) ≡ due nothing (device_of plain)
-unfolding tick_due device_of
-talking plain reading draw trades idle = talking_idle (state_of plain.state) low_speed reading draw (device_of plain) trades idle
-
 -- Where nothing is due, nothing is said and the record stays.
 pub nothing_due : (plain : PlainRecord) (d : Due) → d ≡ due nothing (device_of plain) → Fits (Kept 0) plain d
 nothing_due plain d none =
     record { shown = record { answer = ap (λ (x : Due). packed x.says) (sym none); device = ap (λ (x : Due). x.device) (sym none) } }
-
--- The reader's step, by what a match has found.
-pub steps_by : (reader found : Reader) (mode : LineMode) (reading : ℕ) (step : Step) → reader ≡ found → mode ≡ lsm_mode → step ≡ edge_of mode found reading
-    → edge_of lsm_mode reader reading ≡ step
-steps_by reader found mode reading step is speed steps =
-    ap (λ (x : Reader). edge_of lsm_mode x reading) is ∙ ap (λ (m : LineMode). edge_of m found reading) (sym speed) ∙ sym steps
 
 -- An edge, by what the code has asked: whether it is taken, and if so, what the reader makes of it.
 module _ (plain : PlainRecord) (reading : ℕ) (state : State) (out takes : Bool) (is : state ≡ state_of plain.state) (sends : out ≡ is_set plain.is_out)
@@ -163,15 +116,3 @@ module _ (plain : PlainRecord) (reading : ℕ) (state : State) (out takes : Bool
   edge_taken quick reader step taken reads moves fits =
       rw (sym asked_of_record ∙ taken)
       (subst (λ (x : Step). Fits quick plain (listened x reading (device_of plain))) (sym moves ∙ ap (λ (r : Reader). edge_of lsm_mode r reading) reads) fits)
-
-  pub edge_ignored : takes ≡ false → Fits (Kept 0) plain (edge_due lsm_mode reading (device_of plain))
-  unfolding edge_due device_of
-  edge_ignored left = nothing_due plain _ (rw (sym asked_of_record ∙ left) refl)
-
--- What a match has found of what is told quickly.
-pub kept_tells : (quick : Quick) (answer : ℕ) (plain : PlainRecord) (d : Due) → quick ≡ Kept answer → Fits quick plain d → Tells (record { answer = answer; after = plain }) d
-kept_tells quick answer plain d is fits = (subst (λ (q : Quick). Fits q plain d) is fits).shown
-
-pub moved_tells : (quick : Quick) (answer : ℕ) (reader : ReaderNumbers) (plain : PlainRecord) (d : Due) → quick ≡ Moved answer reader → Fits quick plain d
-    → Tells (record { answer = answer; after = with_reader_numbers reader plain }) d
-moved_tells quick answer reader plain d is fits = (subst (λ (q : Quick). Fits q plain d) is fits).shown

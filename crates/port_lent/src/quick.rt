@@ -37,6 +37,7 @@ fn is_good(heard: Heard) -> bool
 }
 
 // What the reader's step brings, if it has read no good page.
+#[tactic(auto, using(crate::proofs::QuickLaws::reader_moved))]
 fn moved(step: Step) -> Quick
     ensures { (plain : PlainRecord) (reading : ℕ) → Fits result plain (listened step reading (device_of plain)) }
 {
@@ -70,36 +71,20 @@ fn talk_acts(plain: &PlainRecord, reading: u32) -> bool
     is_lost || page_is_due(plain, reading)
 }
 
-// Whether a tick finds the timer of Break or of Check-link out.
-fn timer_acts(plain: &PlainRecord, reading: u32) -> bool
-    ensures { is_talking (state_of plain.now.state) ≡ false → result ≡ false → (draw : ℕ) → tick_due low_speed reading draw (device_of plain.now) ≡ due nothing (device_of plain.now) }
-{
-    match plain.state {
-        1 => break_is_over(plain.timer, reading),
-        5 => inhibit_is_over(
-            (plain.outcome == SETTLED).then_some(plain.ability),
-            plain.timer,
-            reading,
-        ),
-        _ => false,
-    }
-}
-
-// Whether pages are traded.
-fn is_talking(state: State) -> bool
-    ensures { result ≡ is_talking state }
-{
-    takes_edges(state, false)
-}
-
 // Whether a tick does anything.
+#[tactic(auto, using(crate::proofs::QuickLaws::idle_talk, crate::proofs::QuickLaws::inhibit_by), unfolding(port_state::specs::PlainRecords::device_of, port_timing::specs::Ticks::tick_due))]
 fn tick_acts(plain: &PlainRecord, reading: u32) -> bool
     ensures { result ≡ false → (draw : ℕ) → tick_due low_speed reading draw (device_of plain.now) ≡ due nothing (device_of plain.now) }
 {
-    if is_talking(State::from(plain.state)) {
-        return talk_acts(plain, reading);
+    match State::from(plain.state) {
+        State::Off | State::Up => false,
+        State::Break => break_is_over(plain.timer, reading),
+        State::Ability | State::Ack | State::Complete => talk_acts(plain, reading),
+        State::CheckLink => {
+            let rate = (plain.outcome == SETTLED).then_some(plain.ability);
+            inhibit_is_over(rate, plain.timer, reading)
+        }
     }
-    timer_acts(plain, reading)
 }
 
 // A tick.
@@ -142,6 +127,7 @@ fn quick_read(plain: &PlainRecord, register: u64) -> Quick
 }
 
 // An edge.
+#[tactic(auto, using(crate::proofs::QuickLaws::nothing_due), unfolding(port_hearing::specs::Edges::edge_due, port_state::specs::PlainRecords::device_of, line_reader::specs::Reading::edge_of))]
 fn quick_edge<const IN_RUN: bool>(plain: &PlainRecord, reading: u32) -> Quick
     ensures { Fits result plain.now (edge_due lsm_mode reading (device_of plain.now)) }
 {

@@ -194,7 +194,8 @@ fn write_transmit(device: Device, third: Third, value: u16) -> Device
         .with_loaded(loads(third, device.link.next.loaded))
 }
 
-// The device with one register of a bank written, if that may be.
+// The device with one register of a bank written, if that may be. The two banks that are read only have an arm each, since of each a wrong answer is refused there
+// (partner_written_as_advertised, heard_page_written).
 fn write_bank(device: Device, bank: Bank, third: Third, value: u16) -> Device
     ensures { result ≡ bank_written bank third value device }
 {
@@ -204,8 +205,9 @@ fn write_bank(device: Device, bank: Bank, third: Third, value: u16) -> Device
             third,
             value,
         )),
+        Bank::Partner => device,
         Bank::Transmit => write_transmit(device, third, value),
-        Bank::Partner | Bank::Heard => device,
+        Bank::Heard => device,
     }
 }
 

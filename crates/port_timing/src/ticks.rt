@@ -64,10 +64,9 @@ fn order(profile: Profile, device: Device, word: u64, reading: u32) -> Reply
 fn is_lost(profile: Profile, device: Device, reading: u32) -> bool
     ensures { result ≡ is_lost profile reading device.link }
 {
-    if is_base(device.link.next.round) {
-        return false;
-    }
-    !device.link.talk.out && run_out(profile.lost, device.link.next.good, reading)
+    !is_base(device.link.next.round)
+        && !device.link.talk.out
+        && run_out(profile.lost, device.link.next.good, reading)
 }
 
 // A tick in Ability, Ack or Complete: the link is given up, or the page ordered if it may be.
