@@ -4,8 +4,8 @@ ghost use Rattle.answers.specs.Answers.{packed, nothing, register_value};
 ghost use Rattle.page_word.specs.Thirds.{third_of};
 ghost use Rattle.line_mode.specs.Modes.{lsm_mode};
 ghost use Rattle.port_state.specs.declared.plain_record.PlainRecord.{PlainRecord};
-ghost use Rattle.port_state.specs.Memory.{due, is_talking};
-ghost use Rattle.port_state.specs.PlainRecords.{state_of, device_of};
+ghost use Rattle.port_state.specs.Memory.{due};
+ghost use Rattle.port_state.specs.PlainRecords.{device_of};
 ghost use Rattle.port_registers.specs.Registers.{read_due};
 ghost use Rattle.port_hearing.specs.Edges.{listened, edge_due};
 ghost use Rattle.port_timing.specs.Ticks.{run_out, low_speed, holds_back, may_order, is_lost, tick_due};
@@ -127,8 +127,9 @@ fn quick_read(plain: &PlainRecord, register: u64) -> Quick
 }
 
 // An edge.
+#[inline(always)]
 #[tactic(auto, using(crate::proofs::QuickLaws::nothing_due), unfolding(port_hearing::specs::Edges::edge_due, port_state::specs::PlainRecords::device_of, line_reader::specs::Reading::edge_of))]
-fn quick_edge<const IN_RUN: bool>(plain: &PlainRecord, reading: u32) -> Quick
+fn quick_edge(plain: &PlainRecord, reading: u32) -> Quick
     ensures { Fits result plain.now (edge_due lsm_mode reading (device_of plain.now)) }
 {
     if !takes_edges(State::from(plain.state), is_set(plain.is_out)) {
@@ -146,20 +147,15 @@ fn quick_edge<const IN_RUN: bool>(plain: &PlainRecord, reading: u32) -> Quick
     }
 }
 
-// An event. IN_RUN says which of two callers this is for, a run or a call for one event, so that each has a copy of its own: the compiler lays a function with one caller into
-// it. (One copy for both costs 48 instructions a tick and 39 a read of a run in place of 30 and 24, past the limits of bench/run.)
+// An event.
+#[inline(always)]
 #[tactic(auto, unfolding(port_step::specs::Runs::event_of, port_step::specs::Steps::step_over))]
-pub(crate) fn quick_of<const IN_RUN: bool>(
-    plain: &PlainRecord,
-    kind: u64,
-    clock: u64,
-    argument: u64,
-) -> Quick
+pub(crate) fn quick_of(plain: &PlainRecord, kind: u64, clock: u64, argument: u64) -> Quick
     ensures { Fits result plain.now (step_on_record kind clock argument plain.now) }
 {
     let reading = (clock % 4294967296) as u32;
     match kind {
-        0 => quick_edge::<IN_RUN>(plain, reading),
+        0 => quick_edge(plain, reading),
         1 => quick_tick(plain, reading),
         4 => quick_read(plain, argument),
         _ => Quick::Slow,

@@ -4,7 +4,7 @@ ghost use Rattle.answers.specs.Answers.{said_count, put_at};
 ghost use Rattle.port_step.specs.Runs.{events_of, answers_to, run_of};
 ghost use Rattle.port_lent.specs.Quickly.{numbers_at};
 
-use crate::lent::{fresh_record, take_event};
+use crate::lent::{fresh_record, step_record};
 use answers::Refusal;
 
 // An event as numbers.
@@ -35,7 +35,7 @@ fn answer_all(events: &[u64], answers: &mut [u64])
     let mut plain = fresh_record();
     for taken in 0..events.len() / 3 {
         let event = numbers_at(events, 3 * taken);
-        answers[taken] = take_event::<true>(&mut plain, event.kind, event.clock, event.argument);
+        answers[taken] = step_record(&mut plain, event.kind, event.clock, event.argument);
     }
 }
 

@@ -59,7 +59,7 @@ pub struct OutcomeNumbers {
     pub is_master: u8,
 }
 
-// A byte of the C record as yes or no.
+// A byte of the C record as yes or no: the header tells C callers that any byte but 0 is yes.
 pub fn is_set(number: u8) -> bool
     ensures { result ≡ is_set number }
 {

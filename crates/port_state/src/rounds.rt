@@ -12,12 +12,14 @@ pub enum Round {
     Later,
 }
 
+// A function, though `==` says as much: the wrong answers first_round_as_base and no_round_is_base are refused here.
 pub fn is_base(round: Round) -> bool
     ensures { result ≡ is_base round }
 {
     round == Round::Base
 }
 
+// So are later_round_as_first and no_round_is_first.
 pub fn is_first(round: Round) -> bool
     ensures { result ≡ is_first round }
 {
