@@ -7,7 +7,6 @@ ghost use Rattle.frame_parity.specs.Working.{Fits};
 
 use crate::lists::{DATA_SYMBOLS, PARITY_SYMBOLS, STATE_ENTRIES, all_symbols, put_first};
 use crate::register::push_all;
-use crate::rows::table;
 use answers::Refusal;
 
 // The number of symbols after a burst, or Count. (A sum past the highest number of its type stays at that one, which is too many too.)
@@ -45,7 +44,7 @@ fn take_in(state: &mut [u16], burst: &[u16], count: usize)
     requires { Fits state.old burst.now count }
     ensures { state.new ≡ put_at 0 (entries_after state.old burst.now) state.old }
 {
-    let mut pushed = push_all(register_in(state), burst, table());
+    let mut pushed = push_all(register_in(state), burst);
     pushed[PARITY_SYMBOLS] = count as u16;
     put_first(state, &pushed);
 }

@@ -4,6 +4,8 @@ ghost use Rattle.frame_polynomial.specs.Frame.{all_symbols};
 ghost use Rattle.frame_parity.specs.Taking.{register_of, register_after};
 ghost use Rattle.frame_parity.specs.Working.{Ready, Going, rows_of};
 
+use crate::rows::table;
+
 // The register after one more symbol. (The loop is over places since each takes the symbol of the next one.)
 fn push(register: [u16; 45], symbol: u16, rows: &[[u16; 44]; 24]) -> [u16; 45]
     requires { Going register symbol rows.now }
@@ -20,9 +22,10 @@ fn push(register: [u16; 45], symbol: u16, rows: &[[u16; 44]; 24]) -> [u16; 45]
     out
 }
 
-// The register after a burst of symbols, by the table of rows. The table is given by value: as a local of the caller it would be filled with zeros first, by a function of the C
-// library, which this code is not to need. (A call's result is put into an array by a local of its own, or the borrow checker writes no part of the proof.)
-pub(crate) fn push_all(register: [u16; 45], burst: &[u16], rows: [[u16; 44]; 24]) -> [u16; 45]
+// The register after a burst of symbols, by the table of rows. The table is given by value, and by a function of its own: as a local of `push_all` it would be filled with zeros
+// first, by a function of the C library, which this code is not to need; and made in `take_in` it costs a burst of one symbol twelve instructions more. (A call's result is put into
+// an array by a local of its own, or the borrow checker writes no part of the proof.)
+fn pushed_by(register: [u16; 45], burst: &[u16], rows: [[u16; 44]; 24]) -> [u16; 45]
     requires { (Ready register) × (all_symbols burst.now ≡ true) × (rows ≡ rows_of) }
     ensures { result ≡ register_after (register_of register) burst.now ++ (0 ∷ []) }
 {
@@ -32,4 +35,12 @@ pub(crate) fn push_all(register: [u16; 45], burst: &[u16], rows: [[u16; 44]; 24]
         pushed = next;
     }
     pushed
+}
+
+// The register after a burst of symbols.
+pub(crate) fn push_all(register: [u16; 45], burst: &[u16]) -> [u16; 45]
+    requires { (Ready register) × (all_symbols burst.now ≡ true) }
+    ensures { result ≡ register_after (register_of register) burst.now ++ (0 ∷ []) }
+{
+    pushed_by(register, burst, table())
 }

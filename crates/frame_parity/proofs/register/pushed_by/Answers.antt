@@ -1,5 +1,5 @@
 use Rattle.frame_parity.proofs.RegisterLaws.{none_pushed, going, one_pushed, all_pushed}
-use Rattle.frame_parity.proofs.register.push_all.Goals as goal
+use Rattle.frame_parity.proofs.register.pushed_by.Goals as goal
 
 pub loop-symbol-init : goal.loop-symbol-init
 loop-symbol-init c = none_pushed _ c.requires.0
