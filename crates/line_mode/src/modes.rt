@@ -70,24 +70,14 @@ impl LineMode {
     pub fn judgement(self, gap: u32) -> Judgement
         ensures { result ≡ judgement_of self gap }
     {
-        let spacing = self.spacing as u64;
-        let tolerance = self.tolerance as u64;
-        let width = 2 * tolerance;
-        let first = std::num::wrapping_sub_u64((gap as u64) + tolerance, spacing);
-        if first <= width {
-            return Judgement::Positions(1);
-        }
-        let second = std::num::wrapping_sub_u64(first, spacing);
-        if second <= width {
-            return Judgement::Positions(2);
-        }
-        let third = std::num::wrapping_sub_u64(second, spacing);
-        if third <= width {
-            return Judgement::Positions(3);
-        }
-        let fourth = std::num::wrapping_sub_u64(third, spacing);
-        if fourth <= width {
-            return Judgement::Positions(4);
+        let spacing = u64::from(self.spacing);
+        let width = 2 * u64::from(self.tolerance);
+        let mut reach = u64::from(gap) + u64::from(self.tolerance);
+        for k in 1..5 {
+            reach = std::num::wrapping_sub_u64(reach, spacing);
+            if reach <= width {
+                return Judgement::Positions(k);
+            }
         }
         off_windows(gap, self.quiet)
     }
