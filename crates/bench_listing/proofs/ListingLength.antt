@@ -1,13 +1,13 @@
 -- No listing is longer than 184 040 bytes.
 use Rattle.line_reader.specs.Endings.{Ending}
-use mathlib.Core.Path.{◌≡◌, refl, ap, ◌∙◌}
+use mathlib.Core.Path.{◌≡◌, refl, sym, ap, ap₂, ◌∙◌}
 use mathlib.Core.List.{List, [], ◌∷◌, ◌++◌}
-use Prim.Native.Nat.{ℕ, zero, suc, ◌+◌, ◌*◌, ◌≤◌}
+use Prim.Native.Nat.{ℕ, zero, suc, ◌+◌, ◌*◌, ◌%◌, ◌≤◌}
 use native.Mathlib.Omega.{arith}
 use borrow.Author.Tests.{le-leb}
 use lib.ListN.{length, take, drop, length-append, length-drop}
 use lib.Seq.{take-append_seam}
-use Rattle.answers.specs.Answers.{said_count}
+use Rattle.answers.specs.Answers.{number, packed, put_at, said_count}
 use Rattle.answers.specs.declared.Refusal.{Refusal}
 use Rattle.answers.proofs.OneAnswer.{one_count}
 use Rattle.answers.proofs.PutAtStart.{put_at_start}
@@ -72,19 +72,39 @@ listing_short input = by (given input) refl
         let r = readings_few (drop 1 input) in
         let c = capture_short mode (readings_of (drop 1 input)) in omega arith
 
--- What a caller with room for every listing finds: its length is answered, and it stands at the head of the output.
-pub record Answered (input out : List ℕ) (counted : Result ℕ Refusal) : Type 0 where
-  pub told : counted ≡ Ok (length (listing input))
+-- What a caller with room for every listing finds: the listing at the head of the output, its length in the low 56 bits of the answer.
+pub record Answered (input out : List ℕ) (count : ℕ) : Type 0 where
+  pub few : count ≤ 184040
+  pub text : take count out ≡ listing input
+
+pub answered : (input readings output out : List ℕ) (answer : ℕ) → 8000 ≤ length readings → 184040 ≤ length output
+    → answer ≡ packed (listed input readings output).says → out ≡ (listed input readings output).output
+    → Answered input out (answer % 72057594037927936)
+unfolding listed
+answered input readings output out answer a b e o =
+    record { few = let l = listing_short input in let c = count in omega arith; text = ap₂ take (sym count) (left ∙ put_at_start (listing input) output) ∙ take-append_seam (listing input) (drop (length (listing input)) output) }
+  where
+    count : length (listing input) ≡ answer % 72057594037927936
+    count =
+        let l = listing_short input in
+        let s : answer ≡ packed (number (length (listing input))) = rw (le-leb 8000 (length readings) a, le-leb 184040 (length output) b) at e in omega arith
+
+    left : out ≡ put_at 0 (listing input) output
+    left = rw (le-leb 8000 (length readings) a, le-leb 184040 (length output) b) at o
+
+-- The same of a call that counts: the length is answered, and the output has room for the listing.
+pub record Counted (input out : List ℕ) (answer : Result ℕ Refusal) : Type 0 where
+  pub told : answer ≡ Ok (length (listing input))
   pub fits : length (listing input) ≤ length out
   pub text : take (length (listing input)) out ≡ listing input
 
-pub answered : (input readings output out : List ℕ) (counted : Result ℕ Refusal) → 8000 ≤ length readings → 184040 ≤ length output
-    → said_count counted ≡ (listed input readings output).says → out ≡ (listed input readings output).output
-    → Answered input out counted
+pub counted : (input readings output out : List ℕ) (answer : Result ℕ Refusal) → 8000 ≤ length readings → 184040 ≤ length output
+    → said_count answer ≡ (listed input readings output).says → out ≡ (listed input readings output).output
+    → Counted input out answer
 unfolding listed
-answered input readings output out counted a b e o =
+counted input readings output out answer a b e o =
     record {
-      told = one_count counted (Ok (length (listing input))) (rw (le-leb 8000 (length readings) a, le-leb 184040 (length output) b) at e);
+      told = one_count answer (Ok (length (listing input))) (rw (le-leb 8000 (length readings) a, le-leb 184040 (length output) b) at e);
       fits = let l = ap length at_head ∙ length-append (listing input) (drop (length (listing input)) output) in omega arith;
       text = ap (take (length (listing input))) at_head ∙ take-append_seam (listing input) (drop (length (listing input)) output);
     }

@@ -61,3 +61,17 @@ module _ (readings before list : List ℕ) (i : ℕ) (g : Taken readings before 
       let m = g.most in
       let all : i ≡ length readings = omega arith in
       g.contents ∙ ap (paste before 0 readings) all ∙ ap (λ (l : List ℕ). (take 0 before ++ l) ++ drop (0 + length readings) before) (take-length readings)
+
+-- What the loop leaves.
+pub record Decoded (bytes before list : List ℕ) (count : ℕ) : Type 0 where
+  pub contents : list ≡ put_at 0 (readings_of bytes) before
+  pub size : count ≡ length (readings_of bytes)
+
+pub decoded : (bytes before list : List ℕ) (fours : List (List ℕ)) (i : ℕ) → fours ≡ first_chunks 4 (length bytes / 4) bytes
+    → Taken (readings_of bytes) before list i → length fours ≤ length before → length fours ≤ i → Decoded bytes before list (length fours)
+decoded bytes before list fours i cut g room h =
+    let many = as_many bytes fours cut in
+    record {
+      contents = all_taken (readings_of bytes) before list i g (omega arith) (omega arith);
+      size = many;
+    }

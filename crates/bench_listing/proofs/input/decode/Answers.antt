@@ -1,5 +1,5 @@
 use Rattle.std.proofs.Common.{sym, ◌∙◌, arith}
-use Rattle.bench_listing.proofs.ReadingLaws.{as_many, read_at, none_taken, one_taken, all_taken}
+use Rattle.bench_listing.proofs.ReadingLaws.{as_many, read_at, none_taken, one_taken, decoded}
 use Rattle.bench_listing.proofs.input.decode.Goals as goal
 
 pub loop-i-init : goal.loop-i-init
@@ -13,8 +13,7 @@ loop-i-preserved c =
     (one_taken _ _ _ _ c.loop-i.invariant (omega arith) (omega arith))
 
 pub returns-clause-contents : goal.returns-clause-contents
-returns-clause-contents c =
-    let many = as_many _ _ c.as_chunks.ensures.front in all_taken _ _ _ _ c.loop-i.invariant (omega arith) (omega arith)
+returns-clause-contents c = (decoded _ _ _ _ _ c.as_chunks.ensures.front c.loop-i.invariant (omega arith) (omega arith)).contents
 
 pub returns-clause-count : goal.returns-clause-count
-returns-clause-count c = as_many _ _ c.as_chunks.ensures.front
+returns-clause-count c = (decoded _ _ _ _ _ c.as_chunks.ensures.front c.loop-i.invariant (omega arith) (omega arith)).size
