@@ -7,8 +7,8 @@ use mathlib.Core.List.{List, [], ◌∷◌, ◌++◌}
 use Prim.Native.Nat.{ℕ, ◌+◌, ◌≤◌, ◌<◌}
 use native.Mathlib.Omega.{arith}
 use borrow.Author.Tests.{le-ltb, eq-eqb, lt-ltb, ne_eqb}
-use lib.ListN.{length, take, set, drop}
-use lib.Seq.{take_at, set_at, length-take-le}
+use lib.ListN.{length, length-append, take, set, drop}
+use lib.Seq.{take_at, set_at, take_all, length-take-le}
 use Rattle.answers.specs.Answers.{number, leaving, put_at, kept}
 use Rattle.page_word.proofs.ComputedTest.{and_left, and_right}
 use Rattle.frame_polynomial.specs.Frame.{all_symbols}
@@ -52,13 +52,26 @@ pub loaded : (state register : List ℕ) → 45 ≤ length state → all_symbols
 loaded state register h e f = subst Ready (sym f) (ready (register_of state) (front state h) (as_symbols (register_of state) e))
 
 -- The register and, behind it, the count are the entries that go over the state's first ones.
-pub stored : (state burst register pushed : List ℕ) (count : ℕ) → Fits state burst count → register ≡ register_of state ++ (0 ∷ [])
+pub written : (state burst register pushed : List ℕ) (count : ℕ) → Fits state burst count → register ≡ register_of state ++ (0 ∷ [])
     → pushed ≡ register_after (register_of register) burst ++ (0 ∷ []) → set pushed 44 count ≡ entries_after state burst
-stored state burst register pushed count f e p =
+written state burst register pushed count f e p =
     ap (λ (l : List ℕ). set l 44 count)
     (p ∙ ap (λ (l : List ℕ). register_after l burst ++ (0 ∷ [])) (ap (take 44) e ∙ take_at (register_of state) (0 ∷ []) 44 (front state f.long)))
     ∙ set_at (register_after (register_of state) burst) 0 [] count 44 (after_length (register_of state) burst (front state f.long))
     ∙ ap (λ (n : ℕ). register_after (register_of state) burst ++ (n ∷ [])) f.counted
+
+-- The register and, behind it, the count go over the state's first entries.
+pub stored : (state burst register pushed : List ℕ) (count : ℕ) → Fits state burst count → register ≡ register_of state ++ (0 ∷ [])
+    → pushed ≡ register_after (register_of register) burst ++ (0 ∷ [])
+    → take 45 (set pushed 44 count) ++ drop 45 state ≡ put_at 0 (entries_after state burst) state
+stored state burst register pushed count f e p =
+    ap (λ (l : List ℕ). take 45 l ++ drop 45 state) (written state burst register pushed count f e p)
+    ∙ ap (λ (l : List ℕ). l ++ drop 45 state) (take_all 45 (entries_after state burst) (let l = long in omega arith))
+    ∙ ap (λ (n : ℕ). entries_after state burst ++ drop n state) (sym long)
+    ∙ sym (put_at_start (entries_after state burst) state)
+  where
+    long : length (entries_after state burst) ≡ 45
+    long = length-append (register_after (register_of state) burst) ((count_of state + length burst) ∷ []) ∙ (let l = after_length (register_of state) burst (front state f.long) in omega arith)
 
 -- ---- the finish
 module _ (state list : List ℕ) where
