@@ -16,16 +16,13 @@ fn write_page(tail: &mut [u32], mode: LineMode, word: u64, check: u32, first: u3
 {
     let spacing = mode.spacing;
     let mut clock = first;
-    let mut count: usize = 0;
-    let mut passed: u32 = 0;
-    while passed < 157 {
-        let position = passed + 1;
-        if transition_at(mode, word, check, position) {
+    let mut count = 0;
+    for passed in 0..157 {
+        if transition_at(mode, word, check, passed + 1) {
             tail[count] = clock;
             count += 1;
         }
         clock = std::num::wrapping_add_u32(clock, spacing);
-        passed = position;
     }
 }
 

@@ -36,10 +36,7 @@ pub(crate) fn base_page_in_ability(device: Device, word: u64, reading: u32) -> R
 fn fault_after(word: u64, fault: bool) -> bool
     ensures { result ≡ fault_after word fault }
 {
-    if get(word, Field::RemoteFault) == 1 {
-        return true;
-    }
-    fault
+    get(word, Field::RemoteFault) == 1 || fault
 }
 
 // The partner has answered: its page goes into the registers, and the device to Complete.

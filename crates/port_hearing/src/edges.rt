@@ -13,15 +13,13 @@ use line_mode::LineMode;
 use line_reader::Heard;
 use port_state::{Device, Reply, State, answered, is_base};
 
+// A device, a page and the reading of its last edge go together through these functions: a struct of the three would only be taken apart again in each.
 // A good page in Ability, by round.
 #[tactic(auto, unfolding(crate::specs::Edges::page_in_ability))]
 fn page_in_ability(device: Device, word: u64, reading: u32) -> Reply
     ensures { Meets result (page_in_ability word reading device) }
 {
-    let link = device.link;
-    let next = link.next;
-    let round = next.round;
-    if is_base(round) {
+    if is_base(device.link.next.round) {
         return base_page_in_ability(device, word, reading);
     }
     next_page_in_ability(device, word, reading)
@@ -32,10 +30,7 @@ fn page_in_ability(device: Device, word: u64, reading: u32) -> Reply
 fn page_in_ack(device: Device, word: u64, reading: u32) -> Reply
     ensures { Meets result (page_in_ack word reading device) }
 {
-    let link = device.link;
-    let next = link.next;
-    let round = next.round;
-    if is_base(round) {
+    if is_base(device.link.next.round) {
         return base_page_in_ack(device, word, reading);
     }
     next_page_in_ack(device, word, reading)
@@ -46,15 +41,13 @@ fn page_in_ack(device: Device, word: u64, reading: u32) -> Reply
 fn page_in(device: Device, word: u64, reading: u32) -> Reply
     ensures { Meets result (page_in device.state word reading device) }
 {
-    let state = device.state;
-    match state {
-        State::Off => answered(Answer::Nothing, device),
-        State::Break => answered(Answer::Nothing, device),
+    match device.state {
         State::Ability => page_in_ability(device, word, reading),
         State::Ack => page_in_ack(device, word, reading),
         State::Complete => take(device.with_mark(true, reading), word, reading),
-        State::CheckLink => answered(Answer::Nothing, device),
-        State::Up => answered(Answer::Nothing, device),
+        State::Off | State::Break | State::CheckLink | State::Up => {
+            answered(Answer::Nothing, device)
+        }
     }
 }
 
@@ -74,37 +67,22 @@ fn hear(device: Device, heard: Heard, reading: u32) -> Reply
 fn listen(mode: LineMode, device: Device, reading: u32) -> Reply
     ensures { Meets result (listened (edge_of mode device.link.reader reading) reading device) }
 {
-    let link = device.link;
-    let reader = link.reader;
-    let step = reader.edge(mode, reading);
-    let heard = step.heard;
-    let moved = step.reader;
-    hear(device.with_reader(moved), heard, reading)
+    let step = device.link.reader.edge(mode, reading);
+    hear(device.with_reader(step.reader), step.heard, reading)
 }
 
 // The states in which pages are heard.
 fn is_talking(state: State) -> bool
     ensures { result ≡ is_talking state }
 {
-    match state {
-        State::Off => false,
-        State::Break => false,
-        State::Ability => true,
-        State::Ack => true,
-        State::Complete => true,
-        State::CheckLink => false,
-        State::Up => false,
-    }
+    matches!(state, State::Ability | State::Ack | State::Complete)
 }
 
 // Whether an edge is taken, and not ignored.
 pub fn takes_edges(state: State, out: bool) -> bool
     ensures { result ≡ (is_talking state && not out) }
 {
-    if out {
-        return false;
-    }
-    is_talking(state)
+    !out && is_talking(state)
 }
 
 // An edge, over any mode's numbers.
@@ -112,8 +90,7 @@ pub fn takes_edges(state: State, out: bool) -> bool
 fn edge_by(mode: LineMode, device: Device, reading: u32) -> Reply
     ensures { Meets result (edge_due mode reading device) }
 {
-    let state = device.state;
-    if takes_edges(state, device.link.talk.out) {
+    if takes_edges(device.state, device.link.talk.out) {
         return listen(mode, device, reading);
     }
     answered(Answer::Nothing, device)

@@ -50,9 +50,7 @@ pub(crate) fn is_changed_next(word: u64, held: u64) -> bool
 pub(crate) fn repeats_held(link: Link, word: u64) -> bool
     ensures { result ≡ repeats_held word link }
 {
-    let next = link.next;
-    let round = next.round;
-    if is_first(round) {
+    if is_first(link.next.round) {
         return beyond_ack_and_echo(word) == beyond_ack_and_echo(held_in_round(link));
     }
     beyond_ack(word) == beyond_ack(held_in_round(link))
