@@ -35,7 +35,7 @@ resolved_is_byte (Ok settled) = is_byte settled.ability
 abbrev pub Single : (A : Type 0) → Type 0
 Single A = (first second due : A) → first ≡ due → second ≡ due → first ≡ second
 
--- Of a result the contracts of public functions have three forms, `result ≡ ..`, `said result ≡ ..` and `Meets result ..`, and of lent memory two, `x.new ≡ ..`, x a lent list,
+-- Of a result the contracts of public functions have five forms, `result ≡ ..`, `said result ≡ ..`, `said_count result ≡ ..`, `said_of_judging result ≡ ..` and `Meets result ..`, and of lent memory two, `x.new ≡ ..`, x a lent list,
 -- number, device or record, and, of a record of numbers that an event has changed, `device_of x.new ≡ ..`; `tools/contract-forms` checks that there is no other.
 pub record NoSecondAnswer : Type 0 where
   -- What a contract says outright: a number, yes or no, a lent list afterwards; a mode, and whether a number names one; what a gap is; what an edge brings to a
