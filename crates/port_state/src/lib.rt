@@ -12,7 +12,7 @@ mod rounds;
 use answers::Answer;
 use line_reader::Reader;
 use page_resolve::Resolution;
-pub use plain_record::{PlainRecord, ReaderNumbers, SETTLED, is_set};
+pub use plain_record::{OutcomeNumbers, PlainRecord, ReaderNumbers, SETTLED, is_set};
 pub use rounds::{Round, held_in_round, is_base, is_first, own_in_round};
 
 // The states of the negotiation, in the order of their numbers in a plain record.

@@ -112,21 +112,36 @@ impl From<Round> for u8 {
     }
 }
 
-impl From<PlainRecord> for Reader {
-    // The reader of a record, by its kind's number.
+impl From<ReaderNumbers> for Reader {
+    // The reader that numbers mean, by its kind.
+    #[inline(always)]
     #[tactic(auto, unfolding(crate::specs::PlainRecords::reader_of))]
+    fn from(numbers: ReaderNumbers) -> Reader
+        ensures { result ≡ reader_of numbers.kind numbers.position numbers.last numbers.bits }
+    {
+        match numbers.kind {
+            0 => Reader::Fresh,
+            1 => Reader::Open {
+                at: numbers.position,
+                last: numbers.last,
+                bits: numbers.bits,
+            },
+            _ => Reader::Dropping { last: numbers.last },
+        }
+    }
+}
+
+impl From<PlainRecord> for Reader {
+    #[inline(always)]
     fn from(plain: PlainRecord) -> Reader
         ensures { result ≡ reader_of plain.reader plain.position plain.last plain.bits }
     {
-        match plain.reader {
-            0 => Reader::Fresh,
-            1 => Reader::Open {
-                at: plain.position,
-                last: plain.last,
-                bits: plain.bits,
-            },
-            _ => Reader::Dropping { last: plain.last },
-        }
+        Reader::from(ReaderNumbers {
+            kind: plain.reader,
+            position: plain.position,
+            last: plain.last,
+            bits: plain.bits,
+        })
     }
 }
 
