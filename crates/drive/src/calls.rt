@@ -11,6 +11,7 @@ const STATE_ENTRIES: usize = 45;
 
 // The answer cells of one call. An unknown operation has none, and neither has one with too few arguments.
 fn answer_one(alloc: Global, operation: u64, arguments: &[u64]) -> Result<Vec<u64>, AllocError> {
+    // docs/INTERFACES.md fixes the numbers, and they are decoded here once.
     match (operation, arguments) {
         (1, [word, ..]) => {
             let bits = page_check_bits::check(*word).map(|bits| bits as usize);
@@ -28,13 +29,14 @@ fn answer_one(alloc: Global, operation: u64, arguments: &[u64]) -> Result<Vec<u6
         (6, events) => run(alloc, events),
         (7, [mode, readings @ ..]) => edges(alloc, *mode, readings),
         (8, pages) => messages(alloc, pages),
-        (9, _) if STATE_ENTRIES <= arguments.len() => {
-            let (state, burst) = arguments.split_at(STATE_ENTRIES);
-            parity_take(alloc, state, burst)
-        }
-        (10, _) if STATE_ENTRIES <= arguments.len() => {
-            parity_finish(alloc, &arguments[..STATE_ENTRIES])
-        }
+        (9, list) => match list.split_at_checked(STATE_ENTRIES) {
+            Some((state, burst)) => parity_take(alloc, state, burst),
+            None => Ok(Vec::new(alloc)),
+        },
+        (10, list) => match list.split_at_checked(STATE_ENTRIES) {
+            Some((state, _)) => parity_finish(alloc, state),
+            None => Ok(Vec::new(alloc)),
+        },
         _ => Ok(Vec::new(alloc)),
     }
 }
@@ -43,6 +45,7 @@ fn answer_one(alloc: Global, operation: u64, arguments: &[u64]) -> Result<Vec<u6
 pub(crate) fn answer_all(alloc: Global, cells: &[u64]) -> Result<Vec<u64>, AllocError> {
     let mut answers = Vec::new(alloc);
     let mut calls = cells;
+    // No iterator has the calls: where the next one starts is known only where this one ends.
     while let [operation, count, rest @ ..] = calls {
         let Some((arguments, next)) = rest.split_at_checked(*count as usize) else {
             break;

@@ -19,9 +19,14 @@ pub(crate) fn to_bytes(alloc: Global, cells: &[u64]) -> Result<Vec<u8>, AllocErr
     Ok(bytes)
 }
 
+// A cell as a narrower number, and the greatest of these where it is too wide.
+fn at_most<T: TryFrom<u64, Error: Drop> + Drop>(cell: u64, most: T) -> T {
+    T::try_from(cell).unwrap_or(most)
+}
+
 // A mode: every number from 2 on is a wrong one, of whatever size.
 pub(crate) fn mode_of(cell: u64) -> u32 {
-    u32::try_from(cell).unwrap_or(u32::MAX)
+    at_most(cell, u32::MAX)
 }
 
 // A clock reading, a gap or an entry of a list: taken modulo 2^32.
@@ -29,8 +34,7 @@ pub(crate) fn reading_of(cell: u64) -> u32 {
     (cell % 4294967296) as u32
 }
 
-// An entry of a state or a burst: above 65 535 it counts as 65 535. (With mode_of it would be one generic function only over a trait that
-// has the greatest number of a type, and std has none.)
+// An entry of a state or a burst: above 65 535 it counts as 65 535.
 pub(crate) fn symbol_of(cell: u64) -> u16 {
-    u16::try_from(cell).unwrap_or(u16::MAX)
+    at_most(cell, u16::MAX)
 }

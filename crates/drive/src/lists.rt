@@ -94,6 +94,7 @@ pub(crate) fn messages(alloc: Global, pages: &[u64]) -> Result<Vec<u64>, AllocEr
     let mut found = [0; MOST_MESSAGE_CELLS];
     let counted = page_messages::messages(pages, &mut found);
     let mut told = one(alloc, Answer::from(counted))?;
+    // One slice of so many cells would ask for a proof that they are no more than the list has; take asks for none.
     for message in found.chunks_exact(MESSAGE_CELLS).take(counted.unwrap_or(0)) {
         told.extend_from_slice(message)?;
     }
