@@ -39,6 +39,6 @@ pub(crate) fn edge_count(mode: LineMode, word: u64, check: u32) -> u32
     requires { (word < 2 ^ 48) × (check ≡ check_bits word) }
     ensures { result ≡ length (transitions mode word) }
 {
-    let ones = u64::count_ones(word) + u32::count_ones(check);
+    let ones = word.count_ones() + check.count_ones();
     if mode.slow { ones + 86 } else { ones + 81 }
 }

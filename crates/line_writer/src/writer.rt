@@ -18,11 +18,12 @@ fn write_page(tail: &mut [u32], mode: LineMode, word: u64, check: u32, first: u3
     let mut clock = first;
     let mut count = 0;
     for passed in 0..157 {
+        // Not every position has an entry, and of what goes through an adapter of iter_mut a proof learns nothing.
         if transition_at(mode, word, check, passed + 1) {
             tail[count] = clock;
             count += 1;
         }
-        clock = std::num::wrapping_add_u32(clock, spacing);
+        clock = clock.wrapping_add(spacing);
     }
 }
 

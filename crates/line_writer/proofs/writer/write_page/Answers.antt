@@ -17,7 +17,6 @@ bounds-tail-count c =
 pub loop-passed-preserved : goal.loop-passed-preserved
 unfolding edge_count transitions
 loop-passed-preserved c =
-    rw c.wrapping_add_u32-clock.ensures.value
     (elim c.if-transition_at.branch [
       | then-transition_at w ↦
           let there = sym c.transition_at.ensures ∙ w.if-transition_at.true in
