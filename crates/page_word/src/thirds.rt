@@ -29,8 +29,8 @@ pub fn with_third(word: u64, third: Third, value: u16) -> u64
     ensures { result ≡ with_third third value word }
 {
     match third {
-        Third::Low => with_part(word, value as u64, 0, 16),
-        Third::Middle => with_part(word, value as u64, 16, 16),
-        Third::High => with_part(word, value as u64, 32, 16),
+        Third::Low => with_part(word, u64::from(value), 0, 16),
+        Third::Middle => with_part(word, u64::from(value), 16, 16),
+        Third::High => with_part(word, u64::from(value), 32, 16),
     }
 }
