@@ -51,11 +51,9 @@ pub fn messages(pages: &[u64], list: &mut [u64]) -> Result<usize, Refusal>
         return Err(Refusal::Length);
     }
     let messages = look_at_all(pages)?;
-    if pages.is_empty() {
-        return Ok(0);
+    match pages {
+        [] => Ok(0),
+        [first, ..] if is_message_page(*first) => tell_messages(pages, messages, list),
+        _ => Err(Refusal::Run),
     }
-    if is_message_page(pages[0]) {
-        return tell_messages(pages, messages, list);
-    }
-    Err(Refusal::Run)
 }
