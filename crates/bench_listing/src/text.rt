@@ -7,7 +7,8 @@ ghost use Rattle.bench_listing.specs.Texts.{HasRoom, Adds};
 use answers::Refusal;
 use line_reader::{Broken, Ending};
 
-// A text at the head of some bytes: it takes up as many of them as its length says.
+// A text at the head of some bytes: it takes up as many of them as its length says. It is no fmt::Write, since a write! to a type of one's own says
+// nothing of the bytes that it wrote.
 #[derive(Drop)]
 pub(crate) struct Text<'a> {
     bytes: &'a mut [u8],

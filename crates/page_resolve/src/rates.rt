@@ -19,6 +19,7 @@ fn has_ability(word: u64, ability: u8) -> bool
 pub(crate) fn first_common(order: &[u8], own: u64, partner: u64) -> Option<u8>
     ensures { result ≡ first_of (common_of order.now own partner) }
 {
+    // By find over what iter and copied hand out the proof doesn't close.
     for &ability in order {
         if has_ability(own, ability) && has_ability(partner, ability) {
             return Some(ability);

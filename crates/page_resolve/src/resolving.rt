@@ -9,7 +9,7 @@ use crate::roles::{Role, own_role};
 use answers::{Answer, Refusal};
 use page_word::{WIDE, has_other_selector, is_tie};
 
-// The number n of the ability An, and whether the own side is master.
+// The number n of the ability An, and whether the own side is master: the answer carries yes or no to C, and Role is what two words ask for.
 #[derive(Clone, Copy)]
 pub struct Settled {
     pub ability: u8,

@@ -1,5 +1,5 @@
 // The device with one thing changed. Every change of a device, but for forgetting a link, is one of these: a field of the record is spelled here and
-// in specs/Changes, and nowhere above.
+// in specs/Changes, and nowhere above. They differ in the field that they name, and no parameter can name a field; docs/PROMISES.md names each.
 ghost use Rattle.std.specs.Prelude.{◌≡◌};
 ghost use Rattle.port_state.specs.Changes.{with_state, with_advertised, with_flags, with_partner, with_outcome, with_reader, with_own, with_held, with_out, with_count, with_mark, with_timer, with_latch, with_own_next, with_held_next, with_transmit, with_loaded, with_heard_next, with_round, with_good};
 

@@ -42,7 +42,8 @@ pub struct Lasting {
 }
 
 // What is said and heard on one link: the own base page, the held base page, whether a page is out, how many were sent in Complete; the mark, whether
-// it is "heard" or "waiting", and its reading; the reading at which the state's timer started; the link latch of 7.513.
+// it is "heard" or "waiting", and its reading; the reading at which the state's timer started; the link latch of 7.513. (A mark always has its
+// reading, so it is no Option: with_mark and mark_has_run take the two apart, and docs/PROMISES.md names them. The order of the fields is for speed.)
 #[derive(Clone, Copy)]
 pub struct Talk {
     pub own: u64,

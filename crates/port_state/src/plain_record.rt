@@ -173,7 +173,7 @@ impl From<Reader> for ReaderNumbers {
     }
 }
 
-// The kind of an outcome with a rate, as answers have it and as the C record keeps it.
+// The kind of an outcome with a rate, as the C record keeps it: that of Answer::Settled, which Answer::packed writes as 130.
 pub const SETTLED: u8 = 130;
 
 impl From<PlainRecord> for Outcome {

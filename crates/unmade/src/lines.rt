@@ -6,7 +6,7 @@ use port_step::{Event, step};
 use std::fmt::{Display, Formatter};
 use std::{fmt, io};
 
-// A part of a record, to be told in words.
+// A part of a record, to be told in words. (The types are other crates', whose core prints nothing, so that only a type of one's own can be Display.)
 #[derive(Drop)]
 struct Told<T>(T);
 
