@@ -24,11 +24,10 @@ fn hold_next(device: Device, word: u64, reading: u32) -> Device
 pub(crate) fn next_page_in_ability(device: Device, word: u64, reading: u32) -> Reply
     ensures { Meets result (next_page_in_ability word reading device) }
 {
-    let link = device.link;
-    if repeats_held(link, word) {
+    if repeats_held(device.link, word) {
         return take(device.with_mark(true, reading), word, reading);
     }
-    if same_toggle(word, held_in_round(link)) {
+    if same_toggle(word, held_in_round(device.link)) {
         return answered(
             Answer::Refused(Refusal::Toggle),
             enter_break(device, reading),
@@ -55,8 +54,7 @@ fn complete_again(device: Device, word: u64, reading: u32) -> Device
 pub(crate) fn next_page_in_ack(device: Device, word: u64, reading: u32) -> Reply
     ensures { Meets result (next_page_in_ack word reading device) }
 {
-    let link = device.link;
-    if is_changed_next(word, held_in_round(link)) {
+    if is_changed_next(word, held_in_round(device.link)) {
         return answered(
             Answer::Refused(Refusal::Changed),
             enter_break(device, reading),

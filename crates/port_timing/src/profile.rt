@@ -63,8 +63,8 @@ pub(crate) fn inhibit_at(rate: Option<u8>) -> u32
 pub(crate) fn inhibit_of(outcome: Outcome) -> u32
     ensures { result ≡ inhibit_of outcome }
 {
-    match outcome {
-        Some(Ok(settled)) => inhibit_for(settled.ability),
-        Some(Err(_)) | None => INHIBIT,
-    }
+    inhibit_at(match outcome {
+        Some(Ok(settled)) => Some(settled.ability),
+        Some(Err(_)) | None => None,
+    })
 }

@@ -14,7 +14,7 @@ fn has_rate(outcome: Outcome) -> bool
     matches!(outcome, Some(Ok(_)))
 }
 
-// A report in Check-link. The latch of 7.513 stays as it was: only a read sets it.
+// A report in Check-link. The latch of 7.513 stays as it was: only a read sets it. The reading is here for the contract alone: one for all readings was tried, and `report` didn't close.
 fn report_in_check_link(device: Device, up: bool, reading: u32) -> Device
     ensures { result ≡ report_in CheckLink up reading device }
 {

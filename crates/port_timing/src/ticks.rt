@@ -90,7 +90,7 @@ fn tick_in_break(profile: Profile, device: Device, reading: u32, draw: u64) -> R
     answered(Answer::Nothing, device)
 }
 
-// A tick in Check-link.
+// A tick in Check-link. Profile and draw are here for the contract alone: one for all of them was tried, and `tick_by` didn't close.
 fn tick_in_check_link(profile: Profile, device: Device, reading: u32, draw: u64) -> Reply
     ensures { Meets result (tick_in CheckLink profile reading draw device) }
 {
