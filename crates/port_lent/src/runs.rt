@@ -7,7 +7,7 @@ ghost use Rattle.port_lent.specs.Quickly.{numbers_at};
 use crate::lent::{fresh_record, step_record};
 use answers::Refusal;
 
-// An event as numbers.
+// An event as numbers. Kind, clock and argument are what the C call takes.
 #[derive(Drop)]
 pub struct EventNumbers {
     pub kind: u64,
@@ -15,7 +15,7 @@ pub struct EventNumbers {
     pub argument: u64,
 }
 
-// The numbers of the event that stand from a place on.
+// The numbers of the event that stand from a place on: argument_read_as_the_clock and edge_of_a_run_at_reading_zero are refused here.
 fn numbers_at(events: &[u64], place: usize) -> EventNumbers
     requires { place + 3 ≤ length events.now }
     ensures { result ≡ numbers_at events.now place }

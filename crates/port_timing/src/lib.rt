@@ -1,4 +1,6 @@
 // The negotiation: what a tick, a page sent and a link report do; timers and orders.
+// Device and reading are parameters side by side: each change makes a new device and keeps the reading, so a struct of both would be taken apart at each change; and methods of
+// Device can stand in port_state alone.
 #![tactic(auto)]
 
 mod own_pages;

@@ -1,4 +1,4 @@
-// A tick: timers are looked at, and pages ordered, on ticks only.
+// A tick: timers are looked at, and pages ordered, on ticks only. The profile goes beside device and reading, since promises speak of a tick over any profile.
 ghost use Rattle.std.specs.Prelude.{◌≡◌};
 ghost use Rattle.port_state.specs.declared.State.TheVariants.{Break, CheckLink};
 ghost use Rattle.port_state.specs.Memory.{Meets};
