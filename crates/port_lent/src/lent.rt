@@ -31,14 +31,17 @@ fn put_reader(plain: &mut PlainRecord, reader: ReaderNumbers)
     plain.reader = reader.kind;
 }
 
-// Takes an event. Most change the reader alone or nothing, and then no more is written. It is laid into the call for one event and into the loop of a run, which would else cost up to
-// twice as much (bench/run).
-#[inline(always)]
-pub fn step_record(plain: &mut PlainRecord, kind: u64, clock: u64, argument: u64) -> u64
+// Takes an event, in a run or in a call for it alone. Most change the reader alone or nothing, and then no more is written.
+pub(crate) fn take_event<const IN_RUN: bool>(
+    plain: &mut PlainRecord,
+    kind: u64,
+    clock: u64,
+    argument: u64,
+) -> u64
     ensures says { result ≡ packed (step_on_record kind clock argument plain.old).says }
     ensures means { device_of plain.new ≡ (step_on_record kind clock argument plain.old).device }
 {
-    match quick_of(plain, kind, clock, argument) {
+    match quick_of::<IN_RUN>(plain, kind, clock, argument) {
         Quick::Slow => step_slowly(plain, kind, clock, argument),
         Quick::Kept(answer) => answer,
         Quick::Moved { answer, reader } => {
@@ -46,6 +49,14 @@ pub fn step_record(plain: &mut PlainRecord, kind: u64, clock: u64, argument: u64
             answer
         }
     }
+}
+
+// Takes an event.
+pub fn step_record(plain: &mut PlainRecord, kind: u64, clock: u64, argument: u64) -> u64
+    ensures says { result ≡ packed (step_on_record kind clock argument plain.old).says }
+    ensures means { device_of plain.new ≡ (step_on_record kind clock argument plain.old).device }
+{
+    take_event::<false>(plain, kind, clock, argument)
 }
 
 // The record of a device that no event has reached.

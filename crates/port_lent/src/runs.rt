@@ -4,7 +4,7 @@ ghost use Rattle.answers.specs.Answers.{said_count, put_at};
 ghost use Rattle.port_step.specs.Runs.{events_of, answers_to, run_of};
 ghost use Rattle.port_lent.specs.Quickly.{numbers_at};
 
-use crate::lent::{fresh_record, step_record};
+use crate::lent::{fresh_record, take_event};
 use answers::Refusal;
 
 // An event as numbers. Kind, clock and argument are what the C call takes.
@@ -15,7 +15,7 @@ pub struct EventNumbers {
     pub argument: u64,
 }
 
-// The numbers of the event that stand from a place on: argument_read_as_the_clock and edge_of_a_run_at_reading_zero are refused here.
+// The numbers of the event that stand from a place on: the wrong answer argument_read_as_the_clock is refused here.
 fn numbers_at(events: &[u64], place: usize) -> EventNumbers
     requires { place + 3 ≤ length events.now }
     ensures { result ≡ numbers_at events.now place }
@@ -35,7 +35,7 @@ fn answer_all(events: &[u64], answers: &mut [u64])
     let mut plain = fresh_record();
     for taken in 0..events.len() / 3 {
         let event = numbers_at(events, 3 * taken);
-        answers[taken] = step_record(&mut plain, event.kind, event.clock, event.argument);
+        answers[taken] = take_event::<true>(&mut plain, event.kind, event.clock, event.argument);
     }
 }
 

@@ -12,7 +12,7 @@ bounds-answers-taken c =
 
 pub loop-taken-preserved : goal.loop-taken-preserved
 loop-taken-preserved c =
-    turn _ _ _ _ _ c.loop-taken.invariant (omega arith) _ _ _ c.numbers_at-event.ensures (record { answer = c.step_record.ensures.says; device = c.step_record.ensures.means }) c.requires
+    turn _ _ _ _ _ c.loop-taken.invariant (omega arith) _ _ _ c.numbers_at-event.ensures (record { answer = c.take_event.ensures.says; device = c.take_event.ensures.means }) c.requires
 
 pub returns : goal.returns
 returns c = finish _ _ _ _ _ c.loop-taken.invariant (omega arith)
