@@ -30,7 +30,8 @@ pub enum Refusal {
     Length,
 }
 
-// What a call answers. A value stands in the variant that carries it.
+// What a call answers. A value stands in the variant that carries it. (A case for refusals, and no Result: of a device's event a refusal is an answer like the others, the device goes on
+// after it, and there is nothing for `?` to leave.)
 #[derive(Drop)]
 pub enum Answer {
     Nothing,
@@ -128,7 +129,7 @@ fn rate_and_role(ability: u8, master: bool) -> u64
 }
 
 impl Answer {
-    // The answer as one number, for programs that know no enum.
+    // The answer as one number, for programs that know no enum. (No From: it would hide that a value of 2^56 or more loses its upper bits.)
     pub fn packed(self) -> u64
         ensures { result ≡ packed (said self) }
     {

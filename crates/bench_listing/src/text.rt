@@ -113,7 +113,7 @@ impl<'a> Text<'a> {
         self.put(b"\n");
     }
 
-    // The last line: the numbers of good pages and of other attempts.
+    // The last line: the numbers of good pages and of other attempts. (Of the first line's shape, with other words of 01.)
     pub(crate) fn put_last_line(&mut self, pages: usize, bad: usize)
         requires { (pages < 10000) × (bad < 10000) × HasRoom self.old 20 }
         ensures { Adds self.old (last_line pages bad) self.new }

@@ -1,4 +1,4 @@
-// The parity symbols of a frame, of data that come in bursts, in a state that the caller lends.
+// The parity symbols of a frame, of data that come in bursts, in a state that the caller lends. (Registers and rows are arrays: the library has no heap.)
 #![tactic(auto)]
 
 mod bursts;

@@ -95,7 +95,7 @@ pub fn mode_of(number: u32) -> Option<LineMode>
     }
 }
 
-// How a gap counts in the mode of a number.
+// How a gap counts in the mode of a number, which comes as C gives it: any number has an answer.
 #[tactic(auto, unfolding(crate::specs::Gaps::judged))]
 pub fn judge(mode: u32, gap: u32) -> Result<Judgement, Refusal>
     ensures { said_of_judging result ≡ judged mode gap }
@@ -117,7 +117,8 @@ impl From<Judgement> for Answer {
     }
 }
 
-// What judging has come to, as an answer: no `From`, since neither `Result` nor `Answer` is this crate's.
+// What judging has come to, as an answer: no `From`, since neither `Result` nor `Answer` is this crate's; and a definition of its own stands behind it, so that it shares no body with
+// `page_resolve::answer_to`.
 pub fn answer_to_judging(judging: Result<Judgement, Refusal>) -> Answer
     ensures { said result ≡ said_of_judging judging }
 {

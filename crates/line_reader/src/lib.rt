@@ -1,4 +1,4 @@
-// The edge reader.
+// The edge reader. (An attempt goes through its functions as numbers, its position, last reading and bits: through memory an edge costs twice as much.)
 #![tactic(auto)]
 
 mod endings;

@@ -6,7 +6,7 @@ ghost use Rattle.line_writer.specs.Transitions.{sent_bits, has_transition, trans
 
 use line_mode::LineMode;
 
-// Whether the bit at a place is one.
+// Whether the bit at a place is one. (`port_registers::has_bit` is the same expression over another width.)
 fn bit_at(number: u64, place: u32) -> bool
     requires { place < 64 }
     ensures { result ≡ odd (number / 2 ^ place) }

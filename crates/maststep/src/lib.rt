@@ -1,4 +1,4 @@
-// The C functions of the static library, thin over the crates: each gives the answer as one number. include/maststep.h declares them.
+// The C functions of the static library, thin over the crates: each gives the answer as one number. include/maststep.h declares them. (One line each, and alike: the C interface.)
 #![tactic(auto)]
 
 ghost use Rattle.std.specs.Prelude.{◌≡◌};

@@ -30,7 +30,7 @@ impl From<Settled> for Answer {
     }
 }
 
-// The same as an answer. (A function, since neither Result nor Answer is a type of this crate, which an impl of From needs.)
+// The same as an answer. (Of the body of `line_mode::answer_to_judging`: each is an equality with a definition of its own, and one for both could say only what a bound says. A function, since neither Result nor Answer is a type of this crate, which an impl of From needs.)
 pub fn answer_to(resolution: Resolution) -> Answer
     ensures { said result ≡ said_of resolution }
 {

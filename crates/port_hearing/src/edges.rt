@@ -14,7 +14,7 @@ use line_reader::Heard;
 use port_state::{Device, Reply, State, answered, is_base};
 
 // A device, a page and the reading of its last edge go together through these functions: a struct of the three would only be taken apart again in each.
-// A good page in Ability, by round.
+// A good page in Ability, by round. (As in Ack: what is done is another function at each of the four places, which specs/Edges has one by one.)
 #[tactic(auto, unfolding(crate::specs::Edges::page_in_ability))]
 fn page_in_ability(device: Device, word: u64, reading: u32) -> Reply
     ensures { Meets result (page_in_ability word reading device) }

@@ -38,7 +38,7 @@ pub(crate) fn is_changed(word: u64, held: u64) -> bool
     beyond_ack_and_echo(word) != beyond_ack_and_echo(held)
 }
 
-// Whether a Next Page differs from the held page.
+// Whether a Next Page differs from the held page. (01 and its amendments leave out other bits of the two kinds of page.)
 pub(crate) fn is_changed_next(word: u64, held: u64) -> bool
     ensures { result ≡ is_changed_next word held }
 {

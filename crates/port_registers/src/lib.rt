@@ -1,4 +1,5 @@
-// The registers 7.512 to 7.525: reading and writing them.
+// The registers 7.512 to 7.525: reading and writing them. A register comes as any number, as the host gives it, and is told apart here alone. (`device` stands beside what is written or the
+// reading: every change makes another device and keeps those.)
 #![tactic(auto)]
 
 ghost use Rattle.std.specs.Prelude.{◌≡◌, ◌<◌, ◌≤◌, ◌^◌, if◌then◌else◌};

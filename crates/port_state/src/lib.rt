@@ -176,7 +176,7 @@ impl Device {
     }
 }
 
-// The device in Break: the link is forgotten, and the break timer starts.
+// The device in Break: the link is forgotten, and the break timer starts. (`enter_off` differs in state and reading: both are names that docs/PROMISES.md has.)
 pub fn enter_break(device: Device, reading: u32) -> Device
     ensures { result ≡ into_break reading device }
 {

@@ -6,7 +6,7 @@ use crate::profile::{inhibit_at, low_speed, run_out};
 use crate::ticks::holds_back;
 use line_reader::Reader;
 
-// Break.
+// Break. (Its twin is `partner_is_lost`: each names a wait of the profile, and no parameter can name a field.)
 pub fn break_is_over(timer: u32, reading: u32) -> bool
     ensures { result ≡ run_out low_speed.breaking timer reading }
 {
