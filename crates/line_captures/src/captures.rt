@@ -115,7 +115,7 @@ fn read_in(capture: &[u32], place: usize, mode: LineMode) -> ReadOutcome
     Ok(Some(first_attempt(&capture[place..], place, mode)))
 }
 
-// The first attempt from a place of a capture on: how it ends, and where the next one opens.
+// The first attempt from a place of a capture on: how it ends, and where the next one opens. The mode comes by its number, as C gives it.
 #[tactic(auto, unfolding(crate::specs::Captures::read_of))]
 pub fn read(capture: &[u32], place: usize, mode: u32) -> ReadOutcome
     ensures { result ≡ read_of mode capture.now place }

@@ -25,7 +25,7 @@ use port_timing::{break_is_over, inhibit_is_over, is_held_back, mark_has_run, pa
 #[derive(Drop)]
 pub enum Quick {
     Slow,
-    // The answer is packed where it is made: so it is a number in a register.
+    // The answer as the C call gives it, packed.
     Kept(u64),
     Moved { answer: u64, reader: ReaderNumbers },
 }
