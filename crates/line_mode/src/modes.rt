@@ -83,7 +83,7 @@ impl LineMode {
     }
 }
 
-// The mode that a number names: 0 is HSM, 1 is LSM.
+// The mode that a number names: 0 is HSM, 1 is LSM. (An Option, and no TryFrom: each caller adds the refusal of its own.)
 #[tactic(auto, unfolding(crate::specs::Modes::mode_of))]
 pub fn mode_of(number: u32) -> Option<LineMode>
     ensures { result ≡ mode_of number }

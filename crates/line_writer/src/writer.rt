@@ -52,7 +52,7 @@ fn write_in(
     Ok(count)
 }
 
-// Writes a page's readings into the list from a place on; it answers their number.
+// Writes a page's readings into the list from a place on; it answers their number. The mode comes by its number, as C gives it.
 #[tactic(auto, unfolding(crate::specs::Writing::write_of))]
 pub fn write(
     list: &mut [u32],
