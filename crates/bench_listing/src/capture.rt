@@ -5,7 +5,7 @@ ghost use Rattle.bench_listing.specs.Texts.{HasRoom, Adds};
 
 use crate::text::Text;
 
-// The first line, a line for each attempt from place to next place, and the last line.
+// The first line, a line for each attempt from place to next place, and the last line. (A `while let`, since the next place is what the read gives.)
 pub(crate) fn put_capture(text: &mut Text, mode: u32, capture: &[u32])
     requires { (length capture.now ≤ 8000) × HasRoom text.old 184040 }
     ensures { Adds text.old (capture_listing mode capture.now) text.new }

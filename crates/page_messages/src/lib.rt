@@ -1,4 +1,4 @@
-// A head's message run: which messages a row of heard pages is made of.
+// A head's message run: which messages a row of heard pages is made of. (The pages and the list go side by side: the one is read, the other written.)
 #![tactic(auto)]
 
 mod pages;

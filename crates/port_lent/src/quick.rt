@@ -30,7 +30,7 @@ pub enum Quick {
     Moved { answer: u64, reader: ReaderNumbers },
 }
 
-// Whether an edge has ended a good page, which more than the reader may change by.
+// Whether an edge has ended a good page, which more than the reader may change by. (One `matches!`, as `has_rate` of port_timing, of another type.)
 fn is_good(heard: Heard) -> bool
     ensures { result ≡ is_good heard }
 {
@@ -139,7 +139,7 @@ fn quick_edge<const IN_RUN: bool>(plain: &PlainRecord, reading: u32) -> Quick
     if 155 <= plain.position {
         return Quick::Slow;
     }
-    // By `Reader::edge`, laid in here, an edge costs 81.7 instructions in a run and 74.5 from C; so it costs 82.9 and 71.2.
+    // By `Reader::edge`, laid in here, an edge from C took 74.5 instructions, and so it takes 71.2.
     match Reader::from(*plain) {
         Reader::Fresh => moved(open_on(reading)),
         Reader::Open { at, last, bits } => {
@@ -150,7 +150,7 @@ fn quick_edge<const IN_RUN: bool>(plain: &PlainRecord, reading: u32) -> Quick
 }
 
 // An event. IN_RUN says which of two callers this is for, a run or a call for one event, so that the compiler makes a copy for each and lays it in. With `inline(always)` in its place an
-// edge of a run costs 83 instructions and not 72, and with neither a tick 48 and not 30 (bench/README.md).
+// edge of a run costs 83 instructions and not 72, and with one copy for both a tick of a run 48 and not 35.
 #[tactic(auto, unfolding(port_step::specs::Runs::event_of, port_step::specs::Steps::step_over))]
 pub(crate) fn quick_of<const IN_RUN: bool>(
     plain: &PlainRecord,

@@ -27,7 +27,8 @@ fn numbers_at(events: &[u64], place: usize) -> EventNumbers
     }
 }
 
-// Puts the answers at the head of a list that has room for them.
+// Puts the answers at the head of a list that has room for them. (By index: an event's three cells and the place of its answer go by one number; over chunks it would be the same number with
+// a pattern beside it.)
 fn answer_all(events: &[u64], answers: &mut [u64])
     requires { length (events_of events.now) ≤ length answers.old }
     ensures { answers.new ≡ put_at 0 (answers_to events.now) answers.old }

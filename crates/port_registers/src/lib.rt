@@ -29,7 +29,7 @@ pub enum Register {
     Part { bank: Bank, third: Third },
 }
 
-// A bank's registers, in order.
+// A bank's registers, in order. (A `match` of three, alike by text alone with those of port_state that name a state or a round.)
 fn third_at(place: u64) -> Third
     ensures { result ≡ third_at place }
 {

@@ -4,7 +4,7 @@ ghost use Rattle.port_step.specs.Runs.{event_of};
 
 use crate::events::Event;
 
-// An event as three numbers.
+// An event as three numbers, which are what the C call takes, told apart here.
 #[tactic(auto, unfolding(crate::specs::Runs::event_of))]
 pub fn event_of(kind: u64, clock: u64, argument: u64) -> Event
     ensures { result ≡ event_of kind clock argument }

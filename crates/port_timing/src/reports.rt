@@ -7,7 +7,7 @@ ghost use Rattle.port_timing.specs.Sending.{has_rate, report_in, report_due};
 use answers::Answer;
 use port_state::{Device, Outcome, Reply, State, answered, enter_break};
 
-// Whether an outcome has a rate.
+// Whether an outcome has a rate. (One `matches!`, as `is_good` of port_lent, of another type.)
 fn has_rate(outcome: Outcome) -> bool
     ensures { result ≡ has_rate outcome }
 {
