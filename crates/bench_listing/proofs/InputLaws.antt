@@ -64,14 +64,14 @@ pub record Captures (input : List ℕ) : Type 0 where
 
 pub captures : (input : List ℕ) (mode : ℕ) → given input ≡ Ok mode → Captures input
 unfolding given
-captures [] mode h = absurd (let z : ◌≡◌ {A = ℕ} 0 1 = cc h in omega arith)
+captures [] mode h = cc h
 captures (m ∷ bytes) mode h = by (mode_of m) (ltb 32001 (length (m ∷ bytes))) refl (eqb (length bytes % 4) 0) h
   where
     by : (found : Option LineMode) (t : Bool) → ltb 32001 (length (m ∷ bytes)) ≡ t → (u : Bool)
         → by_mode found (λ k. cond t (Err Room) (cond u (Ok m) (Err Odd))) (Err Mode) ≡ Ok mode → Captures (m ∷ bytes)
-    by None t f u h = absurd (let z : ◌≡◌ {A = ℕ} 0 1 = cc h in omega arith)
-    by (Some k) true f u h = absurd (let z : ◌≡◌ {A = ℕ} 0 1 = cc h in omega arith)
-    by (Some k) false f false h = absurd (let z : ◌≡◌ {A = ℕ} 0 1 = cc h in omega arith)
+    by None t f u h = cc h
+    by (Some k) true f u h = cc h
+    by (Some k) false f false h = cc h
     by (Some k) false f true h = record { some = omega arith; short = ltb-false 32001 (length (m ∷ bytes)) f }
 
 -- The head of a list that was put there.

@@ -128,15 +128,15 @@ record StillOpen (x : ℕ) (r : Reader) : Type 0 where
 
 still_open : (m : LineMode) (at bits x : ℕ) (j : Judgement) → (goes_on m at bits x j).heard ≡ None → StillOpen x (goes_on m at bits x j).reader
 unfolding goes_on arrives
-still_open m at bits x Quiet h = absurd (let z : ◌≡◌ {A = ℕ} 0 1 = cc h in omega arith)
-still_open m at bits x Unfit h = absurd (let z : ◌≡◌ {A = ℕ} 0 1 = cc h in omega arith)
+still_open m at bits x Quiet h = cc h
+still_open m at bits x Unfit h = cc h
 still_open m at bits x (Positions k) h = by (asks m at k) (eqb (at + k) 157) h
   where
     by : (a e : Bool) → (cond a (cond e (step (Some (page_end (with_bit at k bits))) (Dropping x)) (step None (Open (at + k) x (with_bit at k bits)))) (step (Some (Err Gap)) (Dropping x))).heard ≡ None
         → StillOpen x (cond a (cond e (step (Some (page_end (with_bit at k bits))) (Dropping x)) (step None (Open (at + k) x (with_bit at k bits)))) (step (Some (Err Gap)) (Dropping x))).reader
-    by true true h = absurd (let z : ◌≡◌ {A = ℕ} 0 1 = cc h in omega arith)
+    by true true h = cc h
     by true false h = record { at = at + k; bits = with_bit at k bits; is = refl }
-    by false e h = absurd (let z : ◌≡◌ {A = ℕ} 0 1 = cc h in omega arith)
+    by false e h = cc h
 
 module _ (m : LineMode) (tail : List ℕ) (place at last bits i : ℕ) (t : Trying m tail place (Open at last bits) i) (h : i < length tail) where
   module _ (s : Step) (e : s ≡ edge_of m (Open at last bits) (get_or tail i 0)) (n : s.heard ≡ None) where
@@ -165,7 +165,7 @@ drops m last x = refl
 
 pub stays : (x : ℕ) (j : Judgement) → is_open (drops_on x j).reader ≡ false → (drops_on x j).reader ≡ Dropping x
 unfolding drops_on
-stays x Quiet h = absurd (let z : ◌≡◌ {A = ℕ} 0 1 = cc h in omega arith)
+stays x Quiet h = cc h
 stays x Unfit h = refl
 stays x (Positions k) h = refl
 

@@ -27,7 +27,7 @@ after_silence n heard = replicate n None ++ (heard ∷ [])
 -- Where this is what edges bring, it comes at the last of them.
 pub at_last : (m : LineMode) (r : Reader) (edges : List ℕ) (heard : Heard) → heard_along m r edges ≡ after_silence (length edges - 1) heard
     → heard_along m r edges ≡ only_last None edges heard
-at_last m r [] heard h = absurd (let z : ◌≡◌ {A = ℕ} 0 1 = cc h in omega arith)
+at_last m r [] heard h = cc h
 at_last m r (x ∷ edges) heard h = h ∙ ap (λ (n : ℕ). after_silence n heard) (let e : suc (length edges) - 1 ≡ length edges = omega arith in e) ∙ same x edges
   where
     same : (x : ℕ) (edges : List ℕ) → after_silence (length edges) heard ≡ only_last None (x ∷ edges) heard

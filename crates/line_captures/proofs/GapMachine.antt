@@ -99,7 +99,7 @@ only_count_law mode p gap (suc k) h l u a = by (asks mode p (suc k)) a (at_each 
   where
     by : (t : Bool) → t ≡ true → (not t || eqb (suc k) gap) ≡ true → suc k ≡ gap
     by true e f = eqb-true (suc k) gap f
-    by false e f = absurd (let z : ◌≡◌ {A = ℕ} 0 1 = cc e in omega arith)
+    by false e f = cc e
 
 -- Counts that begin with given ones, and go on from a position.
 record Continues (mode : LineMode) (first ks : List ℕ) (at : ℕ) : Type 0 where
@@ -220,7 +220,7 @@ none_past mode (suc k ∷ ks) h =
 
 -- from 155 on two and then none.
 end_only : (mode : LineMode) (ks : List ℕ) → passes mode 155 ks ≡ true → ks ≡ 2 ∷ []
-end_only mode [] h = absurd (let z : ◌≡◌ {A = ℕ} 0 1 = cc h in omega arith)
+end_only mode [] h = cc h
 end_only mode (zero ∷ ks) h = absurd (let c = passed mode 155 zero ks h in omega arith)
 end_only mode (suc k ∷ ks) h =
     let c = passed mode 155 (suc k) ks h in

@@ -60,8 +60,8 @@ judged_counted m gap k =
     first j l u false e others later h = later h
 
     none : (t : Bool) → cond t Quiet Unfit ≡ Positions k → Counted m gap k
-    none true h = absurd (let z : ◌≡◌ {A = ℕ} 0 1 = cc h in omega arith)
-    none false h = absurd (let z : ◌≡◌ {A = ℕ} 0 1 = cc h in omega arith)
+    none true h = cc h
+    none false h = cc h
 
 -- A gap that is judged quiet is at the quiet limit or more.
 pub judged_quiet : (m : LineMode) (gap : ℕ) → judgement_of m gap ≡ Quiet → leb m.quiet gap ≡ true
@@ -69,16 +69,16 @@ unfolding judgement_of
 judged_quiet m gap = none 1 (within m 1 gap) _ (none 2 (within m 2 gap) _ (none 3 (within m 3 gap) _ (none 4 (within m 4 gap) _ (last (leb m.quiet gap)))))
   where
     none : (k : ℕ) (t : Bool) (others : Judgement) → (others ≡ Quiet → leb m.quiet gap ≡ true) → cond t (Positions k) others ≡ Quiet → leb m.quiet gap ≡ true
-    none k true others later h = absurd (let z : ◌≡◌ {A = ℕ} 0 1 = cc h in omega arith)
+    none k true others later h = cc h
     none k false others later h = later h
 
     last : (t : Bool) → cond t Quiet Unfit ≡ Quiet → t ≡ true
     last true h = refl
-    last false h = absurd (let z : ◌≡◌ {A = ℕ} 0 1 = cc h in omega arith)
+    last false h = cc h
 
 -- Gaps that are judged to be so many positions each.
 pub all_near : (m : LineMode) (ks times : List ℕ) → map (judgement_of m) times ≡ map Positions ks → Forall₂ (Near m) ks times
 all_near m [] [] h = Forall₂.nil
-all_near m [] (t ∷ times) h = absurd (let z : ◌≡◌ {A = ℕ} 0 1 = cc h in omega arith)
-all_near m (k ∷ ks) [] h = absurd (let z : ◌≡◌ {A = ℕ} 0 1 = cc h in omega arith)
+all_near m [] (t ∷ times) h = cc h
+all_near m (k ∷ ks) [] h = cc h
 all_near m (k ∷ ks) (t ∷ times) h = Forall₂.cons (judged_counted m t k (cc h)).near (all_near m ks times (cc h))

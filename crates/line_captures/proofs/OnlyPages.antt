@@ -113,10 +113,10 @@ module _ (m : LineMode) (p x bits w y : ℕ) where
 -- Every edge of an attempt that says nothing until it says a page is a count that the pattern asks for.
 walked : (m : LineMode) (n p x bits w : ℕ) (edges : List ℕ) → heard_along m (Open p x bits) edges ≡ after_silence n (Some (Ok w)) → Walk m p x bits w edges
 unfolding edge_of
-walked m zero p x bits w [] h = absurd (let z : ◌≡◌ {A = ℕ} 0 1 = cc h in omega arith)
-walked m (suc n) p x bits w [] h = absurd (let z : ◌≡◌ {A = ℕ} 0 1 = cc h in omega arith)
+walked m zero p x bits w [] h = cc h
+walked m (suc n) p x bits w [] h = cc h
 walked m zero p x bits w (y ∷ []) h = last_edge m p x bits w y (edge_cases m p bits y (judgement_of m (time_between y x))) (cc h)
-walked m zero p x bits w (y ∷ z ∷ edges) h = absurd (let z : ◌≡◌ {A = ℕ} 0 1 = cc h in omega arith)
+walked m zero p x bits w (y ∷ z ∷ edges) h = cc h
 walked m (suc n) p x bits w (y ∷ edges) h =
     edge_before m p x bits w y edges (edge_cases m p bits y (judgement_of m (time_between y x)))
     (λ k e. walked m n (p + k) y (with_bit p k bits) w edges (ap (λ (r : Reader). heard_along m r edges) (sym e) ∙ cc h)) (cc h)

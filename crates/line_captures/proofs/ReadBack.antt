@@ -83,12 +83,12 @@ edge_more m r next after x y rest heard e h =
 counts_read : (m : LineMode) (p x bits : ℕ) (ks edges : List ℕ) → map (judgement_of m) (gaps_after time_between x edges) ≡ map Positions ks
     → passes m p ks ≡ true → (p ≡ 157 → ⊥) → HeardLast m (Open p x bits) edges (verdict (bits_after p bits ks)) (Dropping (last_of x edges))
 counts_read m p x bits [] edges j h n = absurd (n (eqb-true p 157 h))
-counts_read m p x bits (k ∷ ks) [] j h n = absurd (let z : ◌≡◌ {A = ℕ} 0 1 = cc j in omega arith)
+counts_read m p x bits (k ∷ ks) [] j h n = cc j
 counts_read m p x bits (k ∷ []) (y ∷ []) j h n =
     let c = passed m p k [] h in
     one_edge m (Open p x bits) (Dropping y) y (verdict (with_bit p k bits)) (ends_edge m p x bits y k (cc j) c.asked (eqb-true (p + k) 157 c.on))
-counts_read m p x bits (k ∷ []) (y ∷ z ∷ edges) j h n = absurd (let z : ◌≡◌ {A = ℕ} 0 1 = cc j in omega arith)
-counts_read m p x bits (k ∷ i ∷ ks) (y ∷ []) j h n = absurd (let z : ◌≡◌ {A = ℕ} 0 1 = cc j in omega arith)
+counts_read m p x bits (k ∷ []) (y ∷ z ∷ edges) j h n = cc j
+counts_read m p x bits (k ∷ i ∷ ks) (y ∷ []) j h n = cc j
 counts_read m p x bits (k ∷ i ∷ ks) (y ∷ z ∷ edges) j h n =
     let c = passed m p k (i ∷ ks) h in
     edge_more m (Open p x bits) (Open (p + k) y (with_bit p k bits)) (Dropping (last_of z edges)) y z edges (verdict (bits_after p bits (k ∷ i ∷ ks)))

@@ -28,10 +28,10 @@ module _ (m : LineMode) (ending : Ending) (rest : List ℕ) where
   first_ending : (n : ℕ) (r : Reader) (edges : List ℕ) (at : ℕ) → heard_along m r edges ≡ after_silence n (Some ending) → is_open (reader_after m r edges) ≡ false
       → attempt_of m r (edges ++ rest) at ≡ attempt ending (opens_at m (reader_after m r edges) rest (at + length edges))
   unfolding attempt_of opens_at
-  first_ending zero r [] at h o = absurd (let z : ◌≡◌ {A = ℕ} 0 1 = cc h in omega arith)
-  first_ending (suc n) r [] at h o = absurd (let z : ◌≡◌ {A = ℕ} 0 1 = cc h in omega arith)
+  first_ending zero r [] at h o = cc h
+  first_ending (suc n) r [] at h o = cc h
   first_ending zero r (x ∷ []) at h o = let e : (edge_of m r x).heard ≡ Some ending = cc h in rw (e, o)
-  first_ending zero r (x ∷ y ∷ edges) at h o = absurd (let z : ◌≡◌ {A = ℕ} 0 1 = cc h in omega arith)
+  first_ending zero r (x ∷ y ∷ edges) at h o = cc h
   first_ending (suc n) r (x ∷ edges) at h o =
       let e : (edge_of m r x).heard ≡ None = cc h in
       rw e (first_ending n (edge_of m r x).reader edges (at + 1) (cc h) o
@@ -48,7 +48,7 @@ page_answer m r w last at edges rest h =
 pub shut_silent : (m : LineMode) (r : Reader) (x : ℕ) → is_open r ≡ false → (edge_of m r x).heard ≡ None
 unfolding edge_of drops_on
 shut_silent m Fresh x h = refl
-shut_silent m (Open at last bits) x h = absurd (let z : ◌≡◌ {A = ℕ} 0 1 = cc h in omega arith)
+shut_silent m (Open at last bits) x h = cc h
 shut_silent m (Dropping last) x h = by (judgement_of m (time_between x last))
   where
     by : (j : Judgement) → (drops_on x j).heard ≡ None
@@ -69,7 +69,7 @@ answered_page : (m : LineMode) (w : ℕ) (r : Reader) (capture : List ℕ) (at n
     → HeardPage m r w capture
 unfolding attempt_of
 answered_page m w r [] at next h =
-    let other : ◌≡◌ {A = Ending} (Err Cut) (Ok w) = same_ending h in absurd (let z : ◌≡◌ {A = ℕ} 0 1 = cc other in omega arith)
+    let other : ◌≡◌ {A = Ending} (Err Cut) (Ok w) = same_ending h in cc other
 answered_page m w r (x ∷ rest) at next h = by (edge_of m r x).heard refl (answered_page m w (edge_of m r x).reader rest (at + 1) next) h
   where
     by : (heard : Heard) → (edge_of m r x).heard ≡ heard
@@ -97,9 +97,9 @@ answered_page m w r (x ∷ rest) at next h = by (edge_of m r x).heard refl (answ
 -- and from a fresh reader on they carry its word: the first edge has opened the attempt.
 fresh_page : (m : LineMode) (w : ℕ) (edges : List ℕ) (n : ℕ) → heard_along m Fresh edges ≡ after_silence n (Some (Ok w)) → Carried m w edges
 unfolding edge_of
-fresh_page m w [] zero h = absurd (let z : ◌≡◌ {A = ℕ} 0 1 = cc h in omega arith)
-fresh_page m w [] (suc n) h = absurd (let z : ◌≡◌ {A = ℕ} 0 1 = cc h in omega arith)
-fresh_page m w (x ∷ edges) zero h = absurd (let z : ◌≡◌ {A = ℕ} 0 1 = cc h in omega arith)
+fresh_page m w [] zero h = cc h
+fresh_page m w [] (suc n) h = cc h
+fresh_page m w (x ∷ edges) zero h = cc h
 fresh_page m w (x ∷ edges) (suc n) h = only_carried m n w x edges (cc h)
 
 -- So a capture that is answered a page begins with edges that carry it.

@@ -66,8 +66,8 @@ module _ (m : LineMode) (apart : Apart m) (capture : List ℕ) (place w : ℕ) w
     where
       by : (t u : Bool) (next : ℕ) → cond t (Err refusal.Room) (cond u (Ok None) (attempt_of m Fresh (drop place capture) place)) ≡ attempt (Ok w) next
           → BeginsWith m w (drop place capture)
-      by true u next h = absurd (let z : ◌≡◌ {A = ℕ} 0 1 = cc h in omega arith)
-      by false true next h = absurd (let z : ◌≡◌ {A = ℕ} 0 1 = cc h in omega arith)
+      by true u next h = cc h
+      by false true next h = cc h
       by false false next h = answered_carried m w (drop place capture) place next h
 
 -- The write call by a mode's number, where there is room.

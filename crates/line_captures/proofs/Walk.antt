@@ -265,7 +265,7 @@ attempt_forward mode capture place ending next h = by (mode_of mode) h
         absurd (let z : ending ∷ [] ≡ [] = ap (λ (o : ReadOutcome). onwards o (λ n. [])) (sym h) ∙ none in let l = ap length z in omega arith)
 
     by : (f : Option LineMode) → by_mode f (λ m. read_in m capture place) (Err refusal.Mode) ≡ attempt ending next → (place < next) × (next ≤ length capture)
-    by None h = absurd (let z : ◌≡◌ {A = ℕ} 0 1 = cc h in omega arith)
+    by None h = cc h
     by (Some m) h = inside m h (ltb place (length capture)) refl
 
 -- The walk tells just the attempts that a reader tells edge by edge along the capture, each once and in order; and as many calls as there are

@@ -150,5 +150,5 @@ counted_small m gap k =
     by false true c d q e = small 2 (omega arith) (omega arith) e
     by false false true d q e = small 3 (omega arith) (omega arith) e
     by false false false true q e = small 4 (omega arith) (omega arith) e
-    by false false false false true e = absurd (let z : ◌≡◌ {A = ℕ} 0 1 = cc e in omega arith)
-    by false false false false false e = absurd (let z : ◌≡◌ {A = ℕ} 0 1 = cc e in omega arith)
+    by false false false false true e = cc e
+    by false false false false false e = cc e

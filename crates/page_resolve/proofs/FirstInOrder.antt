@@ -60,7 +60,7 @@ later n rest own partner ability other f =
     before (suc k) h = f.none_before k (le_of_suc-le-suc h)
 
 pub first_common : (order : List ℕ) (own partner ability : ℕ) → first_of (common_of order own partner) ≡ Some ability → FirstCommon order own partner ability
-first_common [] own partner ability e = absurd (let z : ◌≡◌ {A = ℕ} 0 1 = cc e in omega arith)
+first_common [] own partner ability e = cc e
 first_common (n ∷ rest) own partner ability e = by (first_common rest own partner ability) (is_common own partner n) refl
   where
     by : (first_of (common_of rest own partner) ≡ Some ability → FirstCommon rest own partner ability) → (t : Bool) → is_common own partner n ≡ t → FirstCommon (n ∷ rest) own partner ability
@@ -82,16 +82,16 @@ none_common (n ∷ rest) own partner e = by (none_common rest own partner) (is_c
 -- An answer that is none of the first three refusals comes from the rate and the role.
 settles : (wide other tie : Bool) (x : Resolution) (ability : ℕ) (master : Bool)
     → cond wide (Err refusal.Wide) (cond other (Err refusal.Selector) (cond tie (Err refusal.Tie) x)) ≡ rate_and_role ability master → x ≡ rate_and_role ability master
-settles true other tie x ability master e = absurd (let z : ◌≡◌ {A = ℕ} 0 1 = cc e in omega arith)
-settles false true tie x ability master e = absurd (let z : ◌≡◌ {A = ℕ} 0 1 = cc e in omega arith)
-settles false false true x ability master e = absurd (let z : ◌≡◌ {A = ℕ} 0 1 = cc e in omega arith)
+settles true other tie x ability master e = cc e
+settles false true tie x ability master e = cc e
+settles false false true x ability master e = cc e
 settles false false false x ability master e = e
 
 lacks : (wide other tie : Bool) (x : Resolution)
     → cond wide (Err refusal.Wide) (cond other (Err refusal.Selector) (cond tie (Err refusal.Tie) x)) ≡ Err refusal.None → x ≡ Err refusal.None
-lacks true other tie x e = absurd (let z : ◌≡◌ {A = ℕ} 0 1 = cc e in omega arith)
-lacks false true tie x e = absurd (let z : ◌≡◌ {A = ℕ} 0 1 = cc e in omega arith)
-lacks false false true x e = absurd (let z : ◌≡◌ {A = ℕ} 0 1 = cc e in omega arith)
+lacks true other tie x e = cc e
+lacks false true tie x e = cc e
+lacks false false true x e = cc e
 lacks false false false x e = e
 
 abbrev ability_in : Resolution → ℕ
@@ -99,16 +99,16 @@ ability_in (Ok here) = here.ability
 ability_in (Err refused) = 0
 
 rate_settled : (rate : Option ℕ) (role : Option Role) (ability : ℕ) (master : Bool) → settled_by rate role ≡ rate_and_role ability master → rate ≡ Some ability
-rate_settled None role ability master e = absurd (let z : ◌≡◌ {A = ℕ} 0 1 = cc e in omega arith)
+rate_settled None role ability master e = cc e
 rate_settled (Some n) (Some Master) ability master e = ap (λ (r : Resolution). Some (ability_in r)) e
 rate_settled (Some n) (Some Slave) ability master e = ap (λ (r : Resolution). Some (ability_in r)) e
-rate_settled (Some n) None ability master e = absurd (let z : ◌≡◌ {A = ℕ} 0 1 = cc e in omega arith)
+rate_settled (Some n) None ability master e = cc e
 
 rate_missing : (rate : Option ℕ) (role : Option Role) → settled_by rate role ≡ Err refusal.None → rate ≡ None
 rate_missing None role e = refl
-rate_missing (Some n) (Some Master) e = absurd (let z : ◌≡◌ {A = ℕ} 0 1 = cc e in omega arith)
-rate_missing (Some n) (Some Slave) e = absurd (let z : ◌≡◌ {A = ℕ} 0 1 = cc e in omega arith)
-rate_missing (Some n) None e = absurd (let z : ◌≡◌ {A = ℕ} 0 1 = cc e in omega arith)
+rate_missing (Some n) (Some Master) e = cc e
+rate_missing (Some n) (Some Slave) e = cc e
+rate_missing (Some n) None e = cc e
 
 -- Whatever two words settle on is the first of the list that they have in common,
 pub settled_first : (order : List ℕ) (own partner ability : ℕ) (master : Bool)

@@ -17,7 +17,7 @@ and_left false b h = h
 
 pub and_right : (a b : Bool) → (a && b) ≡ true → b ≡ true
 and_right true b h = h
-and_right false b h = absurd (let z : ◌≡◌ {A = ℕ} 0 1 = cc h in omega arith)
+and_right false b h = cc h
 
 pub at_each : (n : ℕ) (test : ℕ → Bool) → every_below n test ≡ true → (k : ℕ) → k < n → test k ≡ true
 at_each zero test h k l = absurd (not-suc-le-zero l)

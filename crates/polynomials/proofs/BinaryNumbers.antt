@@ -99,8 +99,8 @@ xor_longer x y a b =
 -- Adding polynomials of one length is the exclusive or of their numbers.
 plus_after : (x y : ℕ) (p q : List Bool) → length p ≡ length q → numeral_after (bit_xor x y) (plus binary p q) ≡ bit_xor (numeral_after x p) (numeral_after y q)
 plus_after x y [] [] h = refl
-plus_after x y [] (b ∷ q) h = absurd (let z : ◌≡◌ {A = ℕ} 0 1 = cc h in omega arith)
-plus_after x y (a ∷ p) [] h = absurd (let z : ◌≡◌ {A = ℕ} 0 1 = cc h in omega arith)
+plus_after x y [] (b ∷ q) h = cc h
+plus_after x y (a ∷ p) [] h = cc h
 plus_after x y (a ∷ p) (b ∷ q) h =
     ap (λ (n : ℕ). numeral_after n (plus binary p q)) (sym (xor_longer x y a b)) ∙ plus_after (x * 2 + bit a) (y * 2 + bit b) p q (cc h)
 

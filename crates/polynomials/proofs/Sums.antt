@@ -84,8 +84,8 @@ module _ {A : Type 0} (over : Coefficients A) where
   -- Sums of two parts each, where the first parts are equally long.
   pub plus_parts : (p p' q q' : List A) → length p ≡ length p' → plus over (p ++ q) (p' ++ q') ≡ plus over p p' ++ plus over q q'
   plus_parts [] [] q q' h = refl
-  plus_parts [] (b ∷ p') q q' h = absurd (let z : ◌≡◌ {A = ℕ} 0 1 = cc h in omega arith)
-  plus_parts (a ∷ p) [] q q' h = absurd (let z : ◌≡◌ {A = ℕ} 0 1 = cc h in omega arith)
+  plus_parts [] (b ∷ p') q q' h = cc h
+  plus_parts (a ∷ p) [] q q' h = cc h
   plus_parts (a ∷ p) (b ∷ p') q q' h = ap (λ (l : List A). over.sum a b ∷ l) (plus_parts p p' q q' (cc h))
 
   pub scaled_at : (c : A) (p : List A) (k : ℕ) (d : A) → k < length p → get_or (scaled over c p) k d ≡ over.product c (get_or p k d)
