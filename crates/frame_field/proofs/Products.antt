@@ -19,7 +19,7 @@ use Rattle.polynomials.proofs.Division.{two_runs, divided_append, divided_length
 use Rattle.polynomials.proofs.Multiplying.{product_length, product_last}
 use Rattle.frame_field.specs.Field.{◌⊕◌, ◌⊗◌, field_polynomial, alpha, raised}
 use Rattle.frame_field.proofs.TimesAlpha.{times_alpha, alphas, power, alphas_nought, alphas_one, alphas_below}
-use Rattle.frame_field.proofs.TimesBits.{times_bits, times, times_comm, times_assoc, times_sum, times_sum_left, times_zero, times_left, times_power, times_alphas, power_below, no_divisors}
+use Rattle.frame_field.proofs.TimesBits.{times_bits, times, times_comm, times_assoc, times_sum, times_sum_left, times_zero, times_left, times_power, times_alphas, power_times, power_below, no_divisors}
 use Rattle.frame_field.proofs.PowersOfAlpha.{two}
 
 abbrev lower : List Bool
@@ -148,6 +148,9 @@ no_zero_product a b h k n e = no_divisors a b h k n (sym (product_is a b h k) �
 -- Products with powers of alpha.
 pub product_power : (s k : ℕ) → s < 512 → s ⊗ power k ≡ alphas k s
 product_power s k h = product_is s (power k) h (power_below k) ∙ times_power s k h
+
+pub power_product : (k s : ℕ) → s < 512 → power k ⊗ s ≡ alphas k s
+power_product k s h = product_is (power k) s (power_below k) h ∙ power_times k s h
 
 pub product_alphas : (a k x : ℕ) → a < 512 → x < 512 → a ⊗ alphas k x ≡ alphas k (a ⊗ x)
 product_alphas a k x h l =

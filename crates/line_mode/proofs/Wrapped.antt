@@ -16,10 +16,10 @@ pub record Into (m : LineMode) (k gap x : ℕ) : Type 0 where
   pub centre : k * m.spacing < 2 ^ 35
 
 module _ {m : LineMode} {k gap x : ℕ} (h : Into m k gap x) where
-  in_window : x ≤ 2 * m.tolerance → within m k gap ≡ true
+  pub in_window : x ≤ 2 * m.tolerance → within m k gap ≡ true
   in_window l = let a : k * m.spacing ≤ gap + m.tolerance = omega arith in let b : gap ≤ k * m.spacing + m.tolerance = omega arith in rw (le-leb (k * m.spacing) (gap + m.tolerance) a, le-leb gap (k * m.spacing + m.tolerance) b)
 
-  off_window : 2 * m.tolerance < x → within m k gap ≡ false
+  pub off_window : 2 * m.tolerance < x → within m k gap ≡ false
   off_window l = by (leb (k * m.spacing) (gap + m.tolerance)) refl
     where
       by : (t : Bool) → leb (k * m.spacing) (gap + m.tolerance) ≡ t → (t && leb gap (k * m.spacing + m.tolerance)) ≡ false

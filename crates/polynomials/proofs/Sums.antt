@@ -70,6 +70,10 @@ module _ {A : Type 0} {over : Coefficients A} (sums : Sums over) where
 
 -- These hold whatever the coefficients are.
 module _ {A : Type 0} (over : Coefficients A) where
+  pub plus_nil : (p : List A) → plus over p [] ≡ p
+  plus_nil [] = refl
+  plus_nil (a ∷ p) = refl
+
   pub plus_length : (p q : List A) → length p ≤ length q → length (plus over p q) ≡ length q
   plus_length [] q h = refl
   plus_length (a ∷ p) [] h = absurd (not-suc-le-zero h)
