@@ -1,6 +1,6 @@
 -- No listing is longer than 184 040 bytes.
 use Rattle.line_reader.specs.Endings.{Ending}
-use mathlib.Core.Path.{◌≡◌, refl, sym, ap, ap₂, ◌∙◌}
+use mathlib.Core.Path.{◌≡◌, refl, sym, ap, ap₂, ◌∙◌, subst}
 use mathlib.Core.List.{List, [], ◌∷◌, ◌++◌}
 use Prim.Native.Nat.{ℕ, zero, suc, ◌+◌, ◌*◌, ◌%◌, ◌≤◌}
 use native.Mathlib.Omega.{arith}
@@ -92,7 +92,7 @@ answered input readings output out answer a b e o =
     left : out ≡ put_at 0 (listing input) output
     left = rw (le-leb 8000 (length readings) a, le-leb 184040 (length output) b) at o
 
--- The same of a call that counts: the length is answered, and the output has room for the listing.
+-- So it is of a call that counts: the length is answered, and the output has room for the listing.
 pub record Counted (input out : List ℕ) (answer : Result ℕ Refusal) : Type 0 where
   pub told : answer ≡ Ok (length (listing input))
   pub fits : length (listing input) ≤ length out
@@ -106,8 +106,14 @@ counted input readings output out answer a b e o =
     record {
       told = one_count answer (Ok (length (listing input))) (rw (le-leb 8000 (length readings) a, le-leb 184040 (length output) b) at e);
       fits = let l = ap length at_head ∙ length-append (listing input) (drop (length (listing input)) output) in omega arith;
-      text = ap (take (length (listing input))) at_head ∙ take-append_seam (listing input) (drop (length (listing input)) output);
+      text = subst (λ (n : ℕ). take n out ≡ listing input) count (answered input readings output out (packed (said_count answer)) a b (ap packed e) o).text;
     }
   where
+    count : packed (said_count answer) % 72057594037927936 ≡ length (listing input)
+    count =
+        let l = listing_short input in
+        let s : packed (said_count answer) ≡ packed (number (length (listing input))) =
+        ap packed (rw (le-leb 8000 (length readings) a, le-leb 184040 (length output) b) at e) in omega arith
+
     at_head : out ≡ listing input ++ drop (length (listing input)) output
     at_head = rw (le-leb 8000 (length readings) a, le-leb 184040 (length output) b) at o ∙ put_at_start (listing input) output

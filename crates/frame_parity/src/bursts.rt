@@ -28,7 +28,7 @@ fn only_symbols(register: &[u16], burst: &[u16]) -> bool
 }
 
 // The register of a state, and a zero behind it.
-#[tactic(auto, using(crate::proofs::Answering::front, answers::proofs::PutAtStart::put_at_start))]
+#[tactic(auto, using(crate::proofs::Answering::front))]
 fn register_in(state: &[u16]) -> [u16; 45]
     requires { 45 ≤ length state.now }
     ensures { result ≡ register_of state.now ++ (0 ∷ []) }

@@ -1,6 +1,5 @@
 // Lists of entries that a caller lends: are they symbols, and the first of them put over those of another.
-ghost use Rattle.std.specs.Prelude.{◌≡◌, ◌≤◌, length};
-ghost use Rattle.answers.specs.Answers.{put_at};
+ghost use Rattle.std.specs.Prelude.{◌≡◌, ◌≤◌, ◌++◌, length, drop};
 ghost use Rattle.frame_polynomial.specs.Frame.{all_symbols};
 
 // The entries of a state, of which the last is the count.
@@ -21,10 +20,9 @@ pub(crate) fn all_symbols(list: &[u16]) -> bool
 }
 
 // Puts entries over the first of a list.
-#[tactic(auto, using(answers::proofs::PutAtStart::put_at_start))]
 pub(crate) fn put_first(list: &mut [u16], entries: &[u16])
     requires { length entries.now ≤ length list.old }
-    ensures { list.new ≡ put_at 0 entries.now list.old }
+    ensures { list.new ≡ entries.now ++ drop (length entries.now) list.old }
 {
     list[..entries.len()].copy_from_slice(entries);
 }

@@ -8,6 +8,7 @@ use Rattle.answers.specs.Choices.{◌=?◌}
 use Rattle.answers.specs.Answers.{packed, nothing}
 use Rattle.answers.specs.Numbers.{refusal_of}
 use Rattle.page_resolve.specs.Resolving.{rate_and_role}
+use Rattle.line_mode.specs.declared.modes.LineMode.{LineMode}
 use Rattle.line_mode.specs.Modes.{lsm_mode}
 use Rattle.line_reader.specs.declared.endings.Broken.TheVariants.{Gap, Cut, Check}
 use Rattle.line_reader.specs.declared.reader.Reader.{Reader}
@@ -103,6 +104,12 @@ inhibit_by kind ability master = by (kind =? 0x82) (kind =? 0)
 pub nothing_due : (plain : PlainRecord) (d : Due) → d ≡ due nothing (device_of plain) → Fits (Kept 0) plain d
 nothing_due plain d none =
     record { shown = record { answer = ap (λ (x : Due). packed x.says) (sym none); device = ap (λ (x : Due). x.device) (sym none) } }
+
+-- The reader's step, by what a match has found.
+pub steps_by : (reader found : Reader) (mode : LineMode) (reading : ℕ) (step : Step) → reader ≡ found → mode ≡ lsm_mode → step ≡ edge_of mode found reading
+    → edge_of lsm_mode reader reading ≡ step
+steps_by reader found mode reading step is speed steps =
+    ap (λ (x : Reader). edge_of lsm_mode x reading) is ∙ ap (λ (m : LineMode). edge_of m found reading) (sym speed) ∙ sym steps
 
 -- An edge, by what the code has asked: whether it is taken, and if so, what the reader makes of it.
 module _ (plain : PlainRecord) (reading : ℕ) (state : State) (out takes : Bool) (is : state ≡ state_of plain.state) (sends : out ≡ is_set plain.is_out)
