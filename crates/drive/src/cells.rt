@@ -1,22 +1,21 @@
 // Cells of 64 bits: their bytes, low byte first, and what a cell means as a narrower number.
-use std::alloc::{AllocError, Global};
+use crate::{MOST_BYTES, MOST_CELLS};
 
-// The cells of all bytes. Bytes past the last whole cell are not looked at.
-pub(crate) fn from_bytes(alloc: Global, bytes: &[u8]) -> Result<Vec<u64>, AllocError> {
-    let (cells, _) = bytes.as_chunks::<8>();
-    cells
-        .iter()
-        .map(|cell| u64::from_le_bytes(*cell))
-        .collect(alloc)
+// The cells of the bytes.
+pub(crate) fn from_bytes(bytes: &[u8; MOST_BYTES], cells: &mut [u64; MOST_CELLS]) {
+    let (whole, _) = bytes.as_chunks::<8>();
+    for (cell, bytes) in cells.iter_mut().zip(whole) {
+        *cell = u64::from_le_bytes(*bytes);
+    }
 }
 
-// The bytes of all cells.
-pub(crate) fn to_bytes(alloc: Global, cells: &[u64]) -> Result<Vec<u8>, AllocError> {
-    let mut bytes = Vec::new(alloc);
-    for cell in cells {
-        bytes.extend_from_slice(&cell.to_le_bytes())?;
+// The cells as narrower numbers, as far as both lists reach.
+pub(crate) fn narrowed<T: Drop, F: Fn(u64) -> T>(cells: &[u64], numbers: &mut [T], number_of: F)
+    requires { F.IsAlwaysCallable number_of }
+{
+    for (number, cell) in numbers.iter_mut().zip(cells) {
+        *number = number_of(*cell);
     }
-    Ok(bytes)
 }
 
 // A cell as a narrower number, and the greatest of these where it is too wide.

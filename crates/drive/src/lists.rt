@@ -1,122 +1,148 @@
-// The calls that take lists. Each lends lists of its own, and puts the number of its answer cells, and these, behind the answers that stand
-// there already; its contract says how many there are then.
-ghost use Rattle.std.specs.Prelude.{◌≡◌, ◌+◌, ◌*◌, ◌/◌, ◌≤◌, length, vec_len, IfOk};
+// The calls that take lists. Each puts the number of its answer cells, and these, behind the answers that stand there already; its contract
+// says how many there are then.
+ghost use Rattle.std.specs.Prelude.{◌≡◌, ◌+◌, ◌*◌, ◌/◌, ◌≤◌, length};
+ghost use Rattle.arrayvec.specs.ArrayVec.{array_vec_len};
 
-use crate::cells::{mode_of, reading_of, symbol_of};
+use crate::cells::{mode_of, narrowed, reading_of, symbol_of};
+use crate::{Answers, Readings, Told};
 use answers::{Answer, Refusal};
 use line_captures::answer_to_read;
 use line_mode::mode_of as line_mode_of;
 use line_reader::{Reader, answer_to_heard};
-use std::alloc::{AllocError, Global};
 
 // The cells of a message, and the most messages of a run.
 const MESSAGE_CELLS: usize = 3;
 
 const MOST_MESSAGES: usize = 64;
 
+// The cells of a state: the register's 44 symbols, and how many were taken.
+const STATE_ENTRIES: usize = 45;
+
 const PARITY_SYMBOLS: usize = 44;
 
-// No answer cells.
-pub(crate) fn none(answers: &mut Vec<u64>) -> Result<(), AllocError>
-    ensures { IfOk result (λ _. vec_len answers.new ≡ vec_len answers.old + 1) }
+// The most symbols of a burst that have to be looked at: more than 406 are refused, whatever they are, so 407 tell as much as all.
+const MOST_LOOKED_AT: usize = 407;
+
+// Puts a cell behind the answers.
+fn tell(answers: &mut Answers, cell: u64)
+    requires { array_vec_len answers.old + 1 ≤ 196608 }
+    ensures { array_vec_len answers.new ≡ array_vec_len answers.old + 1 }
 {
-    answers.extend_from_slice(&[0])
+    answers.push(cell.to_le_bytes());
+}
+
+// No answer cells.
+pub(crate) fn none(answers: &mut Answers)
+    requires { array_vec_len answers.old + 1 ≤ 196608 }
+    ensures { array_vec_len answers.new ≡ array_vec_len answers.old + 1 }
+{
+    tell(answers, 0);
 }
 
 // An answer alone.
-pub(crate) fn one(answers: &mut Vec<u64>, answer: Answer) -> Result<(), AllocError>
-    ensures { IfOk result (λ _. vec_len answers.new ≡ vec_len answers.old + 2) }
+pub(crate) fn one(answers: &mut Answers, answer: Answer)
+    requires { array_vec_len answers.old + 2 ≤ 196608 }
+    ensures { array_vec_len answers.new ≡ array_vec_len answers.old + 2 }
 {
-    answers.extend_from_slice(&[1, answer.packed()])
+    tell(answers, 1);
+    tell(answers, answer.packed());
 }
 
 // An answer's cell, and the entries of a list behind it.
-fn with_list<T: Copy + Into<u64>>(
-    answers: &mut Vec<u64>,
-    answer: Answer,
-    list: &[T],
-) -> Result<(), AllocError>
-    ensures { IfOk result (λ _. vec_len answers.new ≡ vec_len answers.old + length list.now + 2) }
+fn with_list<T: Copy + Into<u64>>(answers: &mut Answers, answer: Answer, list: &[T])
+    requires { array_vec_len answers.old + length list.now + 2 ≤ 196608 }
+    ensures { array_vec_len answers.new ≡ array_vec_len answers.old + length list.now + 2 }
 {
-    answers.extend_from_slice(&[(list.len() as u64).saturating_add(1), answer.packed()])?;
+    tell(answers, 1 + list.len() as u64);
+    tell(answers, answer.packed());
     for entry in list {
-        answers.push((*entry).into())?;
+        tell(answers, (*entry).into());
     }
-    Ok(())
 }
 
 // Operation 3.
 pub(crate) fn write(
-    answers: &mut Vec<u64>,
-    alloc: Global,
+    answers: &mut Answers,
+    readings: &mut Readings,
     mode: u64,
     word: u64,
     first: u64,
     place: u64,
     list: &[u64],
-) -> Result<(), AllocError>
-    ensures { IfOk result (λ _. vec_len answers.new ≡ vec_len answers.old + length list.now + 2) }
+)
+    requires { (array_vec_len answers.old + length list.now + 2 ≤ 196608) × (length list.now ≤ 65536) }
+    ensures { array_vec_len answers.new ≡ array_vec_len answers.old + length list.now + 2 }
 {
-    let mut entries: Vec<u32> = list.iter().copied().map(reading_of).collect(alloc)?;
+    let entries = &mut readings[..list.len()];
+    narrowed(list, entries, reading_of);
     let counted = line_writer::write(
-        &mut entries,
+        entries,
         place as usize,
         mode_of(mode),
         word,
         reading_of(first),
     );
-    with_list(answers, Answer::from(counted), &entries)
+    with_list(answers, Answer::from(counted), entries)
 }
 
 // Operation 4: the answer, and where the next attempt opens, which is the place itself if there is none.
 pub(crate) fn read(
-    answers: &mut Vec<u64>,
-    alloc: Global,
+    answers: &mut Answers,
+    readings: &mut Readings,
     mode: u64,
     place: u64,
     capture: &[u64],
-) -> Result<(), AllocError>
-    ensures { IfOk result (λ _. vec_len answers.new ≡ vec_len answers.old + 3) }
+)
+    requires { (array_vec_len answers.old + 3 ≤ 196608) × (length capture.now ≤ 65536) }
+    ensures { array_vec_len answers.new ≡ array_vec_len answers.old + 3 }
 {
-    let readings: Vec<u32> = capture.iter().copied().map(reading_of).collect(alloc)?;
-    let outcome = line_captures::read(&readings, place as usize, mode_of(mode));
+    let taken = &mut readings[..capture.len()];
+    narrowed(capture, taken, reading_of);
+    let outcome = line_captures::read(taken, place as usize, mode_of(mode));
     let next = match outcome {
         Ok(Some(attempt)) => attempt.next as u64,
         _ => place,
     };
-    answers.extend_from_slice(&[2, answer_to_read(outcome).packed(), next])
+    tell(answers, 2);
+    tell(answers, answer_to_read(outcome).packed());
+    tell(answers, next);
 }
 
 // Operation 6: an answer to each event, from a fresh device on.
-pub(crate) fn run(answers: &mut Vec<u64>, alloc: Global, events: &[u64]) -> Result<(), AllocError>
-    ensures { IfOk result (λ _. vec_len answers.new ≡ vec_len answers.old + length events.now / 3 + 1) }
+pub(crate) fn run(answers: &mut Answers, told: &mut Told, events: &[u64])
+    requires { (array_vec_len answers.old + length events.now / 3 + 1 ≤ 196608) × (length events.now ≤ 65536) }
+    ensures { array_vec_len answers.new ≡ array_vec_len answers.old + length events.now / 3 + 1 }
 {
-    let mut told = vec![in alloc; 0; events.len() / 3]?;
-    let _ = port_lent::run(events, &mut told);
-    answers.push(told.len() as u64)?;
-    answers.extend_from_slice(&told)
+    let count = events.len() / 3;
+    let told = &mut told[..count];
+    let _ = port_lent::run(events, told);
+    tell(answers, count as u64);
+    for answer in told.iter() {
+        tell(answers, *answer);
+    }
 }
 
 // Operation 7: what a reader says at each reading, from a fresh one on.
-pub(crate) fn edges(answers: &mut Vec<u64>, mode: u64, readings: &[u64]) -> Result<(), AllocError>
-    ensures { IfOk result (λ _. vec_len answers.new ≤ vec_len answers.old + length readings.now + 2) }
+pub(crate) fn edges(answers: &mut Answers, mode: u64, readings: &[u64])
+    requires { array_vec_len answers.old + length readings.now + 2 ≤ 196608 }
+    ensures { array_vec_len answers.new ≤ array_vec_len answers.old + length readings.now + 2 }
 {
     let Some(mode) = line_mode_of(mode_of(mode)) else {
         return one(answers, Answer::Refused(Refusal::Mode));
     };
-    answers.push(readings.len() as u64)?;
+    tell(answers, readings.len() as u64);
     let mut reader = Reader::Fresh;
     for reading in readings {
         let step = reader.edge(mode, reading_of(*reading));
-        answers.push(answer_to_heard(step.heard).packed())?;
+        tell(answers, answer_to_heard(step.heard).packed());
         reader = step.reader;
     }
-    Ok(())
 }
 
 // Operation 8: the answer, and three cells for each message.
-pub(crate) fn messages(answers: &mut Vec<u64>, pages: &[u64]) -> Result<(), AllocError>
-    ensures { IfOk result (λ _. vec_len answers.new ≤ vec_len answers.old + 3 * length pages.now + 2) }
+pub(crate) fn messages(answers: &mut Answers, pages: &[u64])
+    requires { array_vec_len answers.old + 3 * length pages.now + 2 ≤ 196608 }
+    ensures { array_vec_len answers.new ≤ array_vec_len answers.old + 3 * length pages.now + 2 }
 {
     let mut found = [0; MOST_MESSAGES * MESSAGE_CELLS];
     let counted = page_messages::messages(pages, &mut found);
@@ -130,31 +156,28 @@ pub(crate) fn messages(answers: &mut Vec<u64>, pages: &[u64]) -> Result<(), Allo
 }
 
 // Operation 9: the answer, and the state afterwards.
-pub(crate) fn parity_take(
-    answers: &mut Vec<u64>,
-    alloc: Global,
-    state: &[u64],
-    burst: &[u64],
-) -> Result<(), AllocError>
-    ensures { IfOk result (λ _. vec_len answers.new ≡ vec_len answers.old + length state.now + 2) }
+pub(crate) fn parity_take(answers: &mut Answers, state: &[u64; STATE_ENTRIES], burst: &[u64])
+    requires { array_vec_len answers.old + 47 ≤ 196608 }
+    ensures { array_vec_len answers.new ≡ array_vec_len answers.old + 47 }
 {
-    let mut state: Vec<u16> = state.iter().copied().map(symbol_of).collect(alloc)?;
-    let burst: Vec<u16> = burst.iter().copied().map(symbol_of).collect(alloc)?;
-    let counted = frame_parity::take_burst(&mut state, &burst);
-    with_list(answers, Answer::from(counted), &state)
+    let mut entries = [0; STATE_ENTRIES];
+    narrowed(state, &mut entries, symbol_of);
+    let mut symbols = [0; MOST_LOOKED_AT];
+    narrowed(burst, &mut symbols, symbol_of);
+    let looked_at = burst.len().min(MOST_LOOKED_AT);
+    let counted = frame_parity::take_burst(&mut entries, &symbols[..looked_at]);
+    with_list(answers, Answer::from(counted), &entries)
 }
 
 // Operation 10: the answer, and the parity symbols unless it is a refusal.
-pub(crate) fn parity_finish(
-    answers: &mut Vec<u64>,
-    alloc: Global,
-    state: &[u64],
-) -> Result<(), AllocError>
-    ensures { IfOk result (λ _. vec_len answers.new ≤ vec_len answers.old + 46) }
+pub(crate) fn parity_finish(answers: &mut Answers, state: &[u64; STATE_ENTRIES])
+    requires { array_vec_len answers.old + 46 ≤ 196608 }
+    ensures { array_vec_len answers.new ≤ array_vec_len answers.old + 46 }
 {
-    let state: Vec<u16> = state.iter().copied().map(symbol_of).collect(alloc)?;
-    let mut parity = [0u16; PARITY_SYMBOLS];
-    let counted = frame_parity::finish(&state, &mut parity);
+    let mut entries = [0; STATE_ENTRIES];
+    narrowed(state, &mut entries, symbol_of);
+    let mut parity = [0; PARITY_SYMBOLS];
+    let counted = frame_parity::finish(&entries, &mut parity);
     let symbols: &[u16] = if counted.is_ok() { &parity } else { &[] };
     with_list(answers, Answer::from(counted), symbols)
 }
