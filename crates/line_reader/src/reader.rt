@@ -97,9 +97,13 @@ fn step_on(mode: LineMode, at: u32, k: u32, bits: u64, reading: u32) -> Step
 {
     match at {
         0..=26 if spans(line_page::start(mode), at, k) => moved(at + k, bits, reading),
-        27..=154 if at % 2 == 0 && k == 1 => moved(at + k, bits, reading),
-        27..=154 if at % 2 == 1 && k <= 2 => moved(at + k, with_bit(k, bits), reading),
-        155 if k == 2 => whole(bits, reading),
+        27..=154 => match at % 2 {
+            0 if k == 1 => moved(at + k, bits, reading),
+            1 if k <= 2 => moved(at + k, with_bit(k, bits), reading),
+            _ => dropped(Some(Err(Broken::Gap)), reading),
+        },
+        // A pattern 155 would be tried ahead of the ranges, at each edge.
+        155.. if at == 155 && k == 2 => whole(bits, reading),
         _ => dropped(Some(Err(Broken::Gap)), reading),
     }
 }
