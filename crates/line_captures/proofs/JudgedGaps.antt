@@ -63,19 +63,6 @@ judged_counted m gap k =
     none true h = cc h
     none false h = cc h
 
--- A gap that is judged quiet is at the quiet limit or more.
-pub judged_quiet : (m : LineMode) (gap : ℕ) → judgement_of m gap ≡ Quiet → leb m.quiet gap ≡ true
-unfolding judgement_of
-judged_quiet m gap = none 1 (within m 1 gap) _ (none 2 (within m 2 gap) _ (none 3 (within m 3 gap) _ (none 4 (within m 4 gap) _ (last (leb m.quiet gap)))))
-  where
-    none : (k : ℕ) (t : Bool) (others : Judgement) → (others ≡ Quiet → leb m.quiet gap ≡ true) → cond t (Positions k) others ≡ Quiet → leb m.quiet gap ≡ true
-    none k true others later h = cc h
-    none k false others later h = later h
-
-    last : (t : Bool) → cond t Quiet Unfit ≡ Quiet → t ≡ true
-    last true h = refl
-    last false h = cc h
-
 -- Gaps that are judged to be so many positions each.
 pub all_near : (m : LineMode) (ks times : List ℕ) → map (judgement_of m) times ≡ map Positions ks → Forall₂ (Near m) ks times
 all_near m [] [] h = Forall₂.nil

@@ -21,7 +21,7 @@ use Rattle.line_reader.specs.Reading.{drops_on, goes_on, edge_of, heard_along, r
 use Rattle.line_captures.specs.Captures.{is_open}
 use Rattle.line_captures.specs.ReadingBack.{opens_after, EndsWith}
 use Rattle.line_captures.proofs.EdgeRuns.{Carried}
-use Rattle.line_captures.proofs.JudgedGaps.{judged_quiet}
+use Rattle.line_mode.proofs.Windows.{judged_quiet}
 use Rattle.line_captures.proofs.OnlyPages.{Edge, cut, wrong, passing, ending, edge_cases, only_carried}
 use Rattle.line_captures.proofs.ReadCaptures.{shut_silent}
 

@@ -1,9 +1,11 @@
--- Judging over any numbers whose windows lie apart: each window is its own k's alone, and quiet begins above the last.
-use Rattle.std.proofs.Common.{◌≡◌, ℕ, ◌+◌, ◌*◌, ◌<◌, ◌≤◌, true, false, leb, arith, le-leb}
-use mathlib.Core.Bool.{and-false}
+-- Judging over any numbers whose windows lie apart: each window is its own k's alone, and quiet begins above the last. And over any numbers:
+-- below the quiet limit no gap is quiet.
+use Rattle.std.proofs.Common.{◌≡◌, refl, ℕ, ◌+◌, ◌*◌, ◌<◌, ◌≤◌, true, false, leb, arith, le-leb}
+use mathlib.Core.Bool.{Bool, cond, and-false}
 use borrow.Author.Tests.{lt-leb}
 use Rattle.line_mode.specs.declared.modes.LineMode.{LineMode}
-use Rattle.line_mode.specs.declared.modes.Judgement.TheVariants.{Positions, Quiet}
+use Rattle.line_mode.specs.declared.modes.Judgement.{Judgement}
+use Rattle.line_mode.specs.declared.modes.Judgement.TheVariants.{Positions, Quiet, Unfit}
 use Rattle.line_mode.specs.Modes.{hsm_mode, lsm_mode}
 use Rattle.line_mode.specs.Gaps.{within, judgement_of}
 
@@ -50,3 +52,16 @@ module _ (m : LineMode) (a : Apart m) (gap : ℕ) where
   unfolding judgement_of
   counts_quiet h =
       rw (over m 1 gap (omega arith), over m 2 gap (omega arith), over m 3 gap (omega arith), over m 4 gap (omega arith), le-leb m.quiet gap h)
+
+-- A gap that is judged quiet is at the quiet limit or more.
+pub judged_quiet : (m : LineMode) (gap : ℕ) → judgement_of m gap ≡ Quiet → leb m.quiet gap ≡ true
+unfolding judgement_of
+judged_quiet m gap = none 1 (within m 1 gap) _ (none 2 (within m 2 gap) _ (none 3 (within m 3 gap) _ (none 4 (within m 4 gap) _ (last (leb m.quiet gap)))))
+  where
+    none : (k : ℕ) (t : Bool) (others : Judgement) → (others ≡ Quiet → leb m.quiet gap ≡ true) → cond t (Positions k) others ≡ Quiet → leb m.quiet gap ≡ true
+    none k true others later h = cc h
+    none k false others later h = later h
+
+    last : (t : Bool) → cond t Quiet Unfit ≡ Quiet → t ≡ true
+    last true h = refl
+    last false h = cc h

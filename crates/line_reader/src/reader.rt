@@ -135,10 +135,14 @@ pub fn open_on(reading: u32) -> Step
 pub fn drop_on(mode: LineMode, last: u32, reading: u32) -> Step
     ensures { result ≡ edge_of mode (Dropping last) reading }
 {
-    match mode.judgement(time_between(reading, last)) {
-        Judgement::Positions(k) => dropped(None, reading),
+    let gap = time_between(reading, last);
+    // Below the quiet limit nothing opens, whatever the gap counts as: most edges need not be judged.
+    if gap < mode.quiet {
+        return dropped(None, reading);
+    }
+    match mode.judgement(gap) {
         Judgement::Quiet => opened(None, reading),
-        Judgement::Unfit => dropped(None, reading),
+        _ => dropped(None, reading),
     }
 }
 
