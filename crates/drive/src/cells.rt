@@ -1,9 +1,9 @@
 // Cells of 64 bits: their bytes, low byte first, and what a cell means as a narrower number.
-use crate::{MOST_BYTES, MOST_CELLS};
+use crate::{CELL_BYTES, MOST_BYTES, MOST_CELLS};
 
 // The cells of the bytes.
 pub(crate) fn from_bytes(bytes: &[u8; MOST_BYTES], cells: &mut [u64; MOST_CELLS]) {
-    let (whole, _) = bytes.as_chunks::<8>();
+    let (whole, _) = bytes.as_chunks::<CELL_BYTES>();
     for (cell, bytes) in cells.iter_mut().zip(whole) {
         *cell = u64::from_le_bytes(*bytes);
     }

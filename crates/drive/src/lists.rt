@@ -1,5 +1,5 @@
 // The calls that take lists. Each puts the number of its answer cells, and these, behind the answers that stand there already; its contract
-// says how many there are then.
+// says how many there are then, or how many at most. 65536 is there the most cells of the input, and 196608 the room for the answers.
 ghost use Rattle.std.specs.Prelude.{◌≡◌, ◌+◌, ◌*◌, ◌/◌, ◌≤◌, length};
 ghost use Rattle.arrayvec.specs.ArrayVec.{array_vec_len};
 
@@ -115,6 +115,7 @@ pub(crate) fn run(answers: &mut Answers, told: &mut Told, events: &[u64])
 {
     let count = events.len() / 3;
     let told = &mut told[..count];
+    // There is room for all answers, so what the call says is their number.
     let _ = port_lent::run(events, told);
     tell(answers, count as u64);
     for answer in told.iter() {

@@ -14,9 +14,10 @@ use arrayvec::ArrayVec;
 use std::io;
 use std::io::Read;
 
-// The most cells of the input, and of the answers to it.
+// The most cells of the input.
 const MOST_CELLS: usize = 65536;
 
+// The most cells of the answers to it.
 const MOST_ANSWERS: usize = 3 * MOST_CELLS;
 
 const CELL_BYTES: usize = 8;
@@ -51,8 +52,8 @@ fn take_input(source: &mut impl Read, room: &mut [u8; MOST_BYTES]) -> usize
     count
 }
 
-// Reads the calls, answers them, writes the answers. Bytes past the last whole cell are not looked at. The rooms come first: one that stands
-// behind a call is filled twice.
+// Reads the calls, answers them, writes the answers. A last cell that is not whole is not looked at. The answers' room comes ahead of the
+// first call: behind one it is filled twice.
 fn main(rt: HostRuntime) -> io::Result<()> {
     let mut input = [0; MOST_BYTES];
     let mut cells = [0; MOST_CELLS];
