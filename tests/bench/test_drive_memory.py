@@ -1,5 +1,5 @@
-"""What memory the program `drive` takes: its lists stand on its stack, so a limit on a program's data changes no answer, and 5 megabytes of stack are
-enough for the longest calls and the longest answers. `tools/build drive` builds the program."""
+"""What memory the program `drive` takes: its lists stand on its stack, so a limit on a program's data changes no answer, and 3.3 megabytes of stack
+are enough for the longest calls that take lists, and for the longest answers. `tools/build drive` builds the program."""
 import pathlib
 import platform
 import resource
@@ -13,9 +13,10 @@ PROGRAM = ROOT / 'crates/drive/out/drive'
 SECONDS = 60
 # The cells of the input at most. Two of a call are its operation and the number of its arguments.
 MOST_CELLS = 65536
-# Fewer bytes than the longest input has.
-LITTLE_DATA = 400_000
-STACK = 5_000_000
+# Less than half of what the longest input has; the loader alone takes some 120 kilobytes.
+LITTLE_DATA = 250_000
+# The program as `tools/build drive` makes it; as Rattle's own compiler does it needs 4.7 megabytes.
+STACK = 3_300_000
 
 
 def row(operation, arguments):
