@@ -15,7 +15,7 @@ SECONDS = 60
 MOST_CELLS = 65536
 # Less than half of what the longest input has; the loader alone takes some 120 kilobytes.
 LITTLE_DATA = 250_000
-# The program as `tools/build drive` makes it; as Rattle's own compiler does it needs 4.7 megabytes.
+# For the program as `tools/build drive` makes it; as Rattle's own compiler makes it, it needs more than 4.6 megabytes.
 STACK = 3_300_000
 
 
