@@ -11,11 +11,11 @@ ghost use Rattle.port_hearing.specs.Edges.{listened, edge_due};
 ghost use Rattle.port_timing.specs.Ticks.{run_out, low_speed, holds_back, may_order, is_lost, tick_due};
 ghost use Rattle.port_lent.specs.declared.quick.Quick.TheVariants.{Kept};
 ghost use Rattle.port_lent.specs.Lent.{step_on_record};
-ghost use Rattle.port_lent.specs.Quickly.{Fits, is_good};
+ghost use Rattle.port_lent.specs.Quickly.{Fits};
 
-use answers::Answer;
+use answers::{Answer, Refusal};
 use line_mode::LineMode;
-use line_reader::{Heard, Reader, Step, answer_to_heard, drop_on, go_on, open_on};
+use line_reader::{Reader, Step, drop_on, go_on, open_on};
 use page_word::{Third, third_of};
 use port_hearing::takes_edges;
 use port_state::{PlainRecord, ReaderNumbers, Round, SETTLED, State, is_base, is_set};
@@ -30,23 +30,19 @@ pub enum Quick {
     Moved { answer: u64, reader: ReaderNumbers },
 }
 
-// Whether an edge has ended a good page, which more than the reader may change by. (One `matches!`, as `has_rate` of port_timing, of another type.)
-fn is_good(heard: Heard) -> bool
-    ensures { result ≡ is_good heard }
-{
-    matches!(heard, Some(Ok(_)))
-}
-
-// What the reader's step brings, if it has read no good page.
+// What the reader's step brings, if it has read no good page: behind one more than the reader may change. By one `match` over what is heard, since
+// what goes through `answer_to_heard` lies in memory, and an edge that says something takes twice the time.
 #[tactic(auto, using(crate::proofs::QuickLaws::reader_moved))]
 fn moved(step: Step) -> Quick
     ensures { (plain : PlainRecord) (reading : ℕ) → Fits result plain (listened step reading (device_of plain)) }
 {
-    if is_good(step.heard) {
-        return Quick::Slow;
-    }
+    let answer = match step.heard {
+        None => Answer::Nothing,
+        Some(Err(broken)) => Answer::Refused(Refusal::from(broken)),
+        Some(Ok(_)) => return Quick::Slow,
+    };
     Quick::Moved {
-        answer: answer_to_heard(step.heard).packed(),
+        answer: answer.packed(),
         reader: ReaderNumbers::from(step.reader),
     }
 }
@@ -139,7 +135,7 @@ fn quick_edge<const IN_RUN: bool>(plain: &PlainRecord, reading: u32) -> Quick
     if 155 <= plain.position {
         return Quick::Slow;
     }
-    // By `Reader::edge`, laid in here, an edge from C took 74.5 instructions, and so it takes 71.2.
+    // By `Reader::edge`, laid in here, an edge from C took 74.5 instructions, where it took 71.2 so.
     match Reader::from(*plain) {
         Reader::Fresh => moved(open_on(reading)),
         Reader::Open { at, last, bits } => {
@@ -150,7 +146,7 @@ fn quick_edge<const IN_RUN: bool>(plain: &PlainRecord, reading: u32) -> Quick
 }
 
 // An event. IN_RUN says which of two callers this is for, a run or a call for one event, so that the compiler makes a copy for each and lays it in. With `inline(always)` in its place an
-// edge of a run costs 83 instructions and not 72, and with one copy for both a tick of a run 48 and not 35.
+// edge of a run cost 83 instructions and not 72, and with one copy for both a tick of a run 48 and not 35.
 #[tactic(auto, unfolding(port_step::specs::Runs::event_of, port_step::specs::Steps::step_over))]
 pub(crate) fn quick_of<const IN_RUN: bool>(
     plain: &PlainRecord,
